@@ -17,4 +17,5 @@ mod ComposedRows
 mod LastOwners
 mod FrequentWords
 mod Numbers
+mod Lines
 pub mod MarkedLines

@@ -30,11 +30,12 @@ mod zonefile;
 
 pub use dns_entry_scanner::{
     BrokenRow, EntryError, EntryScanner, InlineName, RowFound, RowReader, RowScanner, ScannedName,
-    ScannedString, TextName, TokenSpan, WireScanner, absolute, read_row, scan_name, to_inline_name,
+    ScannedString, TextName, TokenSpan, WireScanner, absolute, line_end, read_row, scan_name,
+    to_inline_name,
 };
 pub use entry::{ComposedEntry, Entry, IncludedFile, ScannedRecord, ScannedRecordData};
 pub use entry_reader::EntryReader;
 pub use error::Error;
-pub use line_mark::LineMark;
+pub use line_mark::{LineMark, next_line};
 pub use statement::{Stated, Statement, scan_statement};
 pub use zonefile::Zonefile;

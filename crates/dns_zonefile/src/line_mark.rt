@@ -1,7 +1,10 @@
 //! Lines of a text.
-ghost use Rattle.std.specs.Prelude.{◌≡◌, ◌≤◌, ℕ, List, length};
+ghost use Rattle.std.specs.Prelude.{◌≡◌, ◌<◌, ◌≤◌, ℕ, List, drop, length};
 ghost use Rattle.dns_zonefile.specs.LineMark.{MarksLine};
+ghost use Rattle.dns_zonefile.specs.PassedOver.{behind_line};
 ghost use Rattle.dns_zonefile.specs.Reader.{line_at, line_behind as spec_line_behind};
+
+use dns_entry_scanner::line_end;
 
 /// An offset in a text and the number of its line, from which lines are counted on.
 #[derive(Clone, Copy, Debug)]
@@ -50,17 +53,26 @@ impl LineMark {
     }
 }
 
+/// Returns the place behind the line feed that ends the line at `place`, or the end of the text if there is none.
+pub fn next_line(text: &[u8], place: usize) -> usize
+    requires { place ≤ length text.now }
+    ensures left { drop result text.now ≡ behind_line (drop place text.now) }
+    ensures behind { place < length text.now → place < result }
+    ensures within { result ≤ length text.now }
+{
+    let end = line_end(text, place);
+    if end == text.len() { end } else { end + 1 }
+}
+
 /// Returns the number of the line after these octets, counted from 1.
 fn line_behind(before: &[u8]) -> usize
     ensures { result ≡ spec_line_behind before.now }
 {
     let mut line = 1;
-    let mut left = before;
-    while let Some((&octet, behind)) = left.split_first() {
-        if octet == b'\n' {
-            line += 1;
-        }
-        left = behind;
+    let mut end = line_end(before, 0);
+    while end < before.len() {
+        line += 1;
+        end = line_end(before, end + 1);
     }
     line
 }

@@ -1,10 +1,11 @@
 //! Going on after a row that was refused.
-ghost use Rattle.std.specs.Prelude.{◌≡◌, ◌≤◌, ◌<◌, Some, None, Ok, drop, length, OnOk, OnErr};
-ghost use Rattle.dns_zonefile.specs.PassedOver.{PassesOver, behind_line as spec_behind_line};
+ghost use Rattle.std.specs.Prelude.{◌≡◌, Some, None, Ok, OnOk, OnErr};
+ghost use Rattle.dns_zonefile.specs.PassedOver.{PassesOver};
 ghost use Rattle.dns_zonefile.specs.ReaderSeen.{reader_of, refused_in};
 ghost use Rattle.dns_zonefile.specs.declared.error.Error.{Error as ErrorOf};
 
 use super::Zonefile;
+use crate::line_mark::next_line;
 use dns_entry_scanner::{RowFound, read_row};
 use std::alloc::AllocError;
 
@@ -32,7 +33,7 @@ impl Zonefile {
                 return Ok(());
             }
             RowFound::Broken => {
-                self.place = behind_line(&self.text, self.place);
+                self.place = next_line(&self.text, self.place);
                 self.count += 1;
                 self.refused = None;
                 return Ok(());
@@ -42,21 +43,4 @@ impl Zonefile {
         self.refused = None;
         Ok(())
     }
-}
-
-/// Returns the offset behind the line feed of the line at the place, or that of the text's end.
-fn behind_line(text: &[u8], place: usize) -> usize
-    requires { place ≤ length text.now }
-    ensures left { drop result text.now ≡ spec_behind_line (drop place text.now) }
-    ensures behind { place < length text.now → place < result }
-    ensures within { result ≤ length text.now }
-{
-    let mut at = place;
-    while at < text.len() {
-        if text[at] == b'\n' {
-            return at + 1;
-        }
-        at += 1;
-    }
-    at
 }

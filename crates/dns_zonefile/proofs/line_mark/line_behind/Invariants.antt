@@ -1,12 +1,9 @@
-use Rattle.std.proofs.Common.{◌≡◌, ◌+◌, ◌≤◌, length}
-use Rattle.dns_zonefile.specs.Reader.{line_behind}
+use Rattle.std.proofs.Common.{◌-◌, length}
+use Rattle.dns_zonefile.proofs.Lines.{AtFeed}
 use Rattle.dns_zonefile.proofs.line_mark.line_behind.Given as goal
 
-abbrev pub invariant-loop-octet : goal.invariant-loop-octet
-invariant-loop-octet l = record {
-  lines : l.line + line_behind l.left ≡ line_behind l.initial.before + 1;
-  few : l.line + length l.left ≤ length l.initial.before + 1;
-}
+abbrev pub invariant-loop-end : goal.invariant-loop-end
+invariant-loop-end l = AtFeed l.before l.line l.end
 
-abbrev pub decreases-loop-octet : goal.decreases-loop-octet
-decreases-loop-octet l = length l.left
+abbrev pub decreases-loop-end : goal.decreases-loop-end
+decreases-loop-end l = length l.before - l.end
