@@ -41,6 +41,9 @@ def newest_kept(name):
     if not entries:
         return None
     to = PLACE / "rlib" / f"{name}.rlib"
+    if os.path.dirname(os.path.realpath(to / "format")) == os.path.realpath(entries[-1]):
+        # (another check may read it now)
+        return to
     shutil.rmtree(to, ignore_errors=True)
     for number, (path, _) in enumerate(json.loads((entries[-1] / "made.json").read_text())["files"]):
         file = PLACE / path.replace(f"rlib/{name}.rlib", f"rlib/{name}.rlib", 1)
