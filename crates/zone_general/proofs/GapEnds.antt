@@ -81,7 +81,7 @@ one_or_none false = refl
 -- where it is
 pub record PartAt (inside now : Bool) (text : List ℕ) (place start end : ℕ) : Type 0 where
   pub within : end ≤ length text
-  pub over : GoesOver inside (drop place text) (between place start text) (between start end text) now (drop end text)
+  pub over : GoesOver inside (drop place text) (between place start text) now (drop end text)
 
 pub part_at : {inside now : Bool} {text : List ℕ} {place start : ℕ} (end len quotes : ℕ) {found : Token} → place ≤ start → start ≤ length text
     → NextAlike inside (drop place text) now (drop start text) → EndsGap now (drop start text) → HasNext inside (drop place text) found
@@ -93,20 +93,15 @@ part_at {inside} {now} {text} {place} {start} end len quotes {found} order withi
     let all : length text - start ≡ length octets + length has.rest =
     sym (length-drop start text) ∙ ap (length {A = ℕ}) first.whole ∙ length-append octets has.rest in
     let behind : drop end text ≡ has.rest =
-    ap (λ n. drop n text) count ∙ sym (drop-drop (length octets) start text) ∙ ap (drop (length octets)) first.whole ∙ drop-append_seam octets has.rest in
-    let long : end - start ≡ length octets = omega (arith, count) in
-    let octets_are : between start end text ≡ octets =
-    ap (λ n. take n (drop start text)) long ∙ ap (take (length octets)) first.whole ∙ take-append_seam octets has.rest in record {
+    ap (λ n. drop n text) count ∙ sym (drop-drop (length octets) start text) ∙ ap (drop (length octets)) first.whole ∙ drop-append_seam octets has.rest in record {
       within = omega (arith, all, count, within);
       over = record {
         token = found;
         next =
             subst (λ (l : List ℕ). Next inside (drop place text) (Some found) now l) (sym behind)
             (subst (λ (b : Bool). Next inside (drop place text) (Some found) b has.rest) first.outs has.next);
-        octets_are = octets_are;
         whole =
             split_between text place start order
-            ∙ ap (λ l. between place start text ++ l)
-            (first.whole ∙ ap (λ l. l ++ has.rest) (sym octets_are) ∙ ap (λ l. between start end text ++ l) (sym behind));
+            ∙ ap (λ l. between place start text ++ l) (first.whole ∙ ap (λ l. octets ++ l) (sym behind));
       };
     }

@@ -35,7 +35,7 @@ pub data Written (place : ℕ) (word text : List ℕ) (parts : List Part) (new :
   with_type : FromType place word text parts new → Written place word text parts new
 
 -- what is written for one part
-written_before : (index place : ℕ) (word text gap token : List ℕ) → index < place → written_part index place word text gap token ≡ gap ++ token
+pub written_before : (index place : ℕ) (word text gap token : List ℕ) → index < place → written_part index place word text gap token ≡ gap ++ token
 written_before index place word text gap token less = rw (lt-ltb index place less) refl
 
 written_type : (index place : ℕ) (word text gap token : List ℕ) → index ≡ place → written_part index place word text gap token ≡ gap ++ word

@@ -6,12 +6,11 @@ use Rattle.dns_text.specs.Tokens.Head.{Go, Comment}
 use Rattle.zone_general.specs.Parts.{token_octets}
 use Rattle.zone_general.specs.Rewritten.{kept, spaced}
 
--- the next token is after this gap, and is written so
-pub record GoesOver (inside : Bool) (left gap octets : List ℕ) (out : Bool) (rest : List ℕ) : Type 0 where
+-- the next token is after this gap
+pub record GoesOver (inside : Bool) (left gap : List ℕ) (out : Bool) (rest : List ℕ) : Type 0 where
   pub token : Token
   pub next : Next inside left (Some token) out rest
-  pub octets_are : octets ≡ token_octets token
-  pub whole : left ≡ gap ++ (octets ++ rest)
+  pub whole : left ≡ gap ++ (token_octets token ++ rest)
 
 -- the token is the next one
 pub record HasNext (inside : Bool) (left : List ℕ) (token : Token) : Type 0 where

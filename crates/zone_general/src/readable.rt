@@ -1,15 +1,14 @@
 //! Texts in which every row has its general form that has one, and the other rows stay.
-ghost use Rattle.std.specs.Prelude.{◌≡◌, ◌<◌, ◌≤◌, Some, drop, length, option_copied, IfOk, OnOk};
+ghost use Rattle.std.specs.Prelude.{◌≡◌, Some, option_copied, IfOk, OnOk};
 ghost use Rattle.dns_entry_scanner.specs.EntryError.{is_memory};
 ghost use Rattle.dns_zonefile.specs.Entry.{at_start};
-ghost use Rattle.dns_zonefile.specs.PassedOver.{behind_line as spec_behind_line};
 ghost use Rattle.zone_general.specs.Readable.{AppendsReadable, AppendsRefused, IsNoEntry, IsReadableOf};
 ghost use Rattle.zone_general.specs.Seen.{IsFound, context_in, octets_in, row_in};
 
 use crate::found_row::FoundRow;
 use crate::longer_reader::{LongerReader, RowForm, further_type};
 use dns_name::{Class, Name};
-use dns_zonefile::{EntryError, RowFound, read_row};
+use dns_zonefile::{EntryError, RowFound, next_line, read_row};
 use std::alloc::{AllocError, Global};
 
 /// Returns the text with the data of further types in general form (RFC 3597 5), as `general` does, but of any text: a row
@@ -45,7 +44,7 @@ pub fn general_rows(
                 place = next;
             }
             Ok(RowFound::Broken) => {
-                let next = behind_line(text, place);
+                let next = next_line(text, place);
                 out.extend_from_slice(&text[place..next])?;
                 place = next;
             }
@@ -113,21 +112,4 @@ pub fn is_want_of_memory(error: EntryError) -> bool
     ensures { result ≡ is_memory error }
 {
     matches!(error, EntryError::OutOfMemory)
-}
-
-/// Returns the offset behind the line feed of the line at the place, or that of the text's end.
-fn behind_line(text: &[u8], place: usize) -> usize
-    requires { place ≤ length text.now }
-    ensures left { drop result text.now ≡ spec_behind_line (drop place text.now) }
-    ensures behind { place < length text.now → place < result }
-    ensures within { result ≤ length text.now }
-{
-    let mut at = place;
-    while at < text.len() {
-        if text[at] == b'\n' {
-            return at + 1;
-        }
-        at += 1;
-    }
-    at
 }

@@ -2,13 +2,13 @@
 ghost use Rattle.std.specs.Prelude.{◌≡◌, ◌<◌, ◌≤◌, ◌++◌, ℕ, List, drop, length, OnOk};
 ghost use Rattle.std.specs.List.{list_all};
 ghost use Rattle.dns_entry_scanner.specs.TokenSpan.{token_in};
-ghost use Rattle.dns_text.specs.Tokens.{from_feed, head_of, is_gap};
+ghost use Rattle.dns_text.specs.Tokens.{head_of, is_gap};
 ghost use Rattle.zone_general.specs.Rewritten.{kept};
 ghost use Rattle.zone_general.specs.Seen.{IsFound, RewritesAt};
 ghost use Rattle.zone_general.specs.WrittenPart.{EndsGap, GoesOver, HasNext, NextAlike, side_of, written_none, written_part};
 
 use crate::found_row::FoundRow;
-use dns_zonefile::TokenSpan;
+use dns_zonefile::{TokenSpan, line_end};
 use std::alloc::AllocError;
 
 /// Appends the row with another word for its type and other data. The data's text takes the place of the first token of data,
@@ -28,9 +28,16 @@ pub fn append_rewritten(
 {
     let mut behind = row.place;
     let mut inside = false;
-    for index in 0..row.spans.len() {
+    for index in 0..type_index {
         let part = next_part(row.text, behind, inside, &row.spans[index]);
-        append_part(index, type_index, word, data, part.gap, part.token, out)?;
+        behind = part.behind;
+        inside = part.inside;
+    }
+    // The row is the same up to here.
+    out.extend_from_slice(&row.text[row.place..behind])?;
+    for index in type_index..row.spans.len() {
+        let part = next_part(row.text, behind, inside, &row.spans[index]);
+        append_part(index, type_index, word, data, part.gap, out)?;
         behind = part.behind;
         inside = part.inside;
     }
@@ -38,12 +45,10 @@ pub fn append_rewritten(
     out.extend_from_slice(&row.text[behind..row.next])
 }
 
-/// A token as it is written, and what is before it.
+/// A token, by what is before it and the place behind it.
 #[derive(Clone, Copy)]
 struct NextPart<'t> {
     gap: &'t [u8],
-    token: &'t [u8],
-    /// The place behind it.
     behind: usize,
     /// Whether that place is inside parentheses.
     inside: bool,
@@ -53,14 +58,13 @@ struct NextPart<'t> {
 fn next_part<'t>(text: &'t [u8], place: usize, inside: bool, span: &TokenSpan) -> NextPart<'t>
     requires next { HasNext inside (drop place text.now) (token_in text.now span.now) }
     requires within { place ≤ length text.now }
-    ensures over { GoesOver inside (drop place text.now) result.gap.now result.token.now result.inside (drop result.behind text.now) }
+    ensures over { GoesOver inside (drop place text.now) result.gap.now result.inside (drop result.behind text.now) }
     ensures within { result.behind ≤ length text.now }
 {
     let (start, inside) = gap_end(text, place, inside);
     let behind = start + span.text(text).len() + 2 * usize::from(span.is_quoted());
     NextPart {
         gap: &text[place..start],
-        token: &text[start..behind],
         behind,
         inside,
     }
@@ -87,7 +91,7 @@ fn gap_end(text: &[u8], place: usize, inside: bool) -> (usize, bool)
                 if text[at] != b';' {
                     return (at, now_inside);
                 }
-                at = comment_end(text, at + 1);
+                at = line_end(text, at + 1);
             }
         }
     }
@@ -108,43 +112,23 @@ fn side_behind(octet: u8, inside: bool) -> Option<bool>
     }
 }
 
-/// Returns the place of the first line feed at or after the place, or the end of the text if there is none.
-fn comment_end(text: &[u8], place: usize) -> usize
-    requires { place ≤ length text.now }
-    ensures feed { drop result text.now ≡ from_feed (drop place text.now) }
-    ensures behind { place ≤ result }
-    ensures within { result ≤ length text.now }
-{
-    let mut at = place;
-    while at < text.len() {
-        if text[at] == b'\n' {
-            return at;
-        }
-        at += 1;
-    }
-    at
-}
-
-/// Appends what is written for the token at the index, and for the gap before it: the same before the type, then the word, and
-/// then the data once. Behind the data's text, a gap of white space alone is left out.
+/// Appends what is written for the token at the index, and for the gap before it, where that is the type or behind it: the word,
+/// and then the data once. Behind the data's text, a gap of white space alone is left out.
 fn append_part(
     index: usize,
     type_index: usize,
     word: &[u8],
     data: &[u8],
     gap: &[u8],
-    token: &[u8],
     out: &mut Vec<u8>,
 ) -> Result<(), AllocError>
-    ensures { OnOk result (out.new.items ≡ out.old.items ++ written_part index type_index word.now data.now gap.now token.now) }
+    requires { type_index ≤ index }
+    ensures { OnOk result ((token : List ℕ) → out.new.items ≡ out.old.items ++ written_part index type_index word.now data.now gap.now token) }
 {
-    if index > type_index && index - type_index > 1 {
+    if index - type_index > 1 {
         return append_kept(gap, out);
     }
     out.extend_from_slice(gap)?;
-    if index < type_index {
-        return out.extend_from_slice(token);
-    }
     if index == type_index {
         return out.extend_from_slice(word);
     }

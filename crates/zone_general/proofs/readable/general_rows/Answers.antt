@@ -30,9 +30,9 @@ loop-next-preserved-in-Ok-Row c =
 pub loop-next-preserved : goal.loop-next-preserved
 loop-next-preserved c =
     let none : IsFoundAt c.args.text.now c.loop-next.place c.read_row.new.tokens.items Broken = rw c.in-Ok-Broken.field-0-is at c.in-Ok-Broken.ensures in
-    let before : c.loop-next.place < c.behind_line-next.result = c.behind_line-next.ensures.behind (goes_on_within c.args.text.now c.loop-next.place none.0 c.loop-next.invariant.within) in
-    readable_line c.behind_line-next.result c.loop-next.invariant none.0 none.1 c.behind_line-next.ensures.left (omega (arith, before))
-    c.behind_line-next.ensures.within c.extend_from_slice.new.self.items c.in_ok-extend_from_slice-in-Ok-Broken.ensures.items
+    let before : c.loop-next.place < c.next_line-next.result = c.next_line-next.ensures.behind (goes_on_within c.args.text.now c.loop-next.place none.0 c.loop-next.invariant.within) in
+    readable_line c.next_line-next.result c.loop-next.invariant none.0 none.1 c.next_line-next.ensures.left (omega (arith, before))
+    c.next_line-next.ensures.within c.extend_from_slice.new.self.items c.in_ok-extend_from_slice-in-Ok-Broken.ensures.items
 
 pub slice_bounds-extend_from_slice-count-in-Ok-End : goal.slice_bounds-extend_from_slice-count-in-Ok-End
 slice_bounds-extend_from_slice-count-in-Ok-End c = omega (arith, c.loop-next.invariant.within)

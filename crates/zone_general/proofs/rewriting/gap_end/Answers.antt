@@ -13,10 +13,10 @@ loop-at-preserved-in-Some c = record {
 
 pub loop-at-preserved : goal.loop-at-preserved
 loop-at-preserved c = record {
-  same = same_comment c.args.text.now c.loop-at.at (omega arith) c.loop-at.invariant.same c.comment_end-at.result (comment_is c.loop-at.now_inside (get_or c.args.text.now c.loop-at.at 0) (omega arith))
-      c.comment_end-at.ensures.feed;
+  same = same_comment c.args.text.now c.loop-at.at (omega arith) c.loop-at.invariant.same c.line_end-at.result (comment_is c.loop-at.now_inside (get_or c.args.text.now c.loop-at.at 0) (omega arith))
+      c.line_end-at.ensures.feed;
   behind = omega arith;
-  within = c.comment_end-at.ensures.within;
+  within = c.line_end-at.ensures.within;
 }
 
 pub returns-then-text-at-ne59-clause-ends : goal.returns-then-text-at-ne59-clause-ends
