@@ -45,16 +45,18 @@ pub fn append_rewritten(
     out.extend_from_slice(&row.text[behind..row.next])
 }
 
-/// A token, by what is before it and the place behind it.
+/// What is before the next token of a row, and where that token ends.
 #[derive(Clone, Copy)]
 struct NextPart<'t> {
     gap: &'t [u8],
+    /// The place behind the token.
     behind: usize,
     /// Whether that place is inside parentheses.
     inside: bool,
 }
 
-/// Returns the token of the span, which is the next one from a place inside parentheses or outside.
+/// Returns what is before the token of the span, which is the next one from a place inside parentheses or outside, and where it
+/// ends.
 fn next_part<'t>(text: &'t [u8], place: usize, inside: bool, span: &TokenSpan) -> NextPart<'t>
     requires next { HasNext inside (drop place text.now) (token_in text.now span.now) }
     requires within { place ≤ length text.now }
