@@ -2,6 +2,7 @@
 #![tactic(auto)]
 
 mod entries;
+mod lines;
 
 use rows::{Answer, Calls, Row, RowError, answer_rows};
 use std::alloc::Global;
@@ -19,6 +20,8 @@ impl Calls for ZonefileCalls {
             "Zonefile::count" => entries::answer_count(alloc, row, out),
             "Zonefile::count_octets" => entries::answer_count_octets(alloc, row, out),
             "Zonefile::octets" => entries::answer_octets(alloc, row, out),
+            "line_ends" => lines::answer_ends(alloc, row, out),
+            "LineMark::line_of" => lines::answer_line_of(alloc, row, out),
             _ => Err(RowError::UnknownCall),
         }
     }
