@@ -326,3 +326,29 @@ goes_back {old} {middle} goes is back = record {
 
 pub goes_same : {old middle new : List ℕ} → GoesOn old middle → new ≡ middle → GoesOn old new
 goes_same goes is = record { more = goes.more; is = is ∙ goes.is }
+
+-- a group of four characters is three octets
+three_by : (octets : List ℕ) → length octets ≡ 3 → octets ≡ get_or octets 0 0 ∷ get_or octets 1 0 ∷ get_or octets 2 0 ∷ []
+three_by [] is = absurd (omega (arith, is))
+three_by (x ∷ []) is = absurd (omega (arith, is))
+three_by (x ∷ y ∷ []) is = absurd (omega (arith, is))
+three_by (x ∷ y ∷ z ∷ []) is = refl
+three_by (x ∷ y ∷ z ∷ w ∷ octets) is = absurd (omega (arith, is))
+
+three_of : {a b c d : ℕ} (octets : List ℕ) → Groups SixtyFour (a ∷ b ∷ c ∷ d ∷ []) octets
+    → octets ≡ get_or octets 0 0 ∷ get_or octets 1 0 ∷ get_or octets 2 0 ∷ []
+three_of {a} {b} {c} {d} octets is =
+    let digits = map (digit SixtyFour) (a ∷ b ∷ c ∷ d ∷ []) in
+    let all : length (all_bits 8 octets ++ is.rest) ≡ 24 = sym (ap (length {A = ℕ}) is.cut) ∙ length-all_bits 6 digits in
+    let little : length is.rest < 6 = is.little in
+    three_by octets (omega (arith, all, length-append (all_bits 8 octets) is.rest, length-all_bits 8 octets, little))
+
+-- which are appended one after another
+pub three_pushed : {a b c d : ℕ} (old octets : List ℕ) → Groups SixtyFour (a ∷ b ∷ c ∷ d ∷ []) octets → {first second last : List ℕ}
+    → first ≡ old ++ get_or octets 0 0 ∷ [] → second ≡ first ++ get_or octets 1 0 ∷ [] → last ≡ second ++ get_or octets 2 0 ∷ [] → last ≡ old ++ octets
+three_pushed old octets is one two three =
+    let x = get_or octets 0 0 in
+    let y = get_or octets 1 0 in
+    let z = get_or octets 2 0 in
+    three ∙ ap (λ (l : List ℕ). l ++ z ∷ []) (two ∙ ap (λ (l : List ℕ). l ++ y ∷ []) one ∙ append_assoc old (x ∷ []) (y ∷ []))
+    ∙ append_assoc old (x ∷ y ∷ []) (z ∷ []) ∙ ap (λ (l : List ℕ). old ++ l) (sym (three_of octets is))

@@ -119,17 +119,21 @@ fn append_base64(text: &[u8], octets: &mut Vec<u8>) -> Result<(), DecodeError>
 /// Appends the octets of the whole groups of four characters that the text begins with, and returns what is left: fewer than
 /// four characters, or four of which one is not in the alphabet, and all behind them.
 ///
-/// Fails if out of memory. It may then have appended some of the octets.
+/// Fails if out of memory, and then appends nothing.
 fn append_groups<'t>(text: &'t [u8], octets: &mut Vec<u8>) -> Result<&'t [u8], AllocError>
     ensures ok { IfOk result (λ left. AppendsGroups text.now left.now octets.old.items octets.new.items) }
     ensures more { GoesOn octets.old.items octets.new.items }
 {
+    octets.reserve(text.len() / 4 * 3)?;
     let mut left = text;
     while let [first, second, third, fourth, behind @ ..] = left {
         let Some(group) = group_octets(*first, *second, *third, *fourth) else {
             break;
         };
-        octets.extend_from_slice(&group)?;
+        let [x, y, z] = group;
+        octets.push_reserved(x);
+        octets.push_reserved(y);
+        octets.push_reserved(z);
         left = behind;
     }
     Ok(left)

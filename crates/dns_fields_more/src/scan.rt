@@ -95,7 +95,7 @@ fn scan_number8<S: EntryScanner>(scanner: &mut S, octets: &mut Vec<u8>) -> Resul
     ensures more { GoesOn octets.old.items octets.new.items }
 {
     match u8::scan(scanner) {
-        Ok(number) => append::<S>(octets, &[number]),
+        Ok(number) => append_number::<S>(octets, &[number]),
         Err(error) => Err(error),
     }
 }
@@ -110,7 +110,7 @@ fn scan_number16<S: EntryScanner>(scanner: &mut S, octets: &mut Vec<u8>) -> Resu
     ensures more { GoesOn octets.old.items octets.new.items }
 {
     match u16::scan(scanner) {
-        Ok(number) => append::<S>(octets, &number.to_be_bytes()),
+        Ok(number) => append_number::<S>(octets, &number.to_be_bytes()),
         Err(error) => Err(error),
     }
 }
@@ -125,7 +125,7 @@ fn scan_number32<S: EntryScanner>(scanner: &mut S, octets: &mut Vec<u8>) -> Resu
     ensures more { GoesOn octets.old.items octets.new.items }
 {
     match u32::scan(scanner) {
-        Ok(number) => append::<S>(octets, &number.to_be_bytes()),
+        Ok(number) => append_number::<S>(octets, &number.to_be_bytes()),
         Err(error) => Err(error),
     }
 }
@@ -315,7 +315,7 @@ fn scan_rtype<S: EntryScanner>(scanner: &mut S, octets: &mut Vec<u8>) -> Result<
     ensures more { GoesOn octets.old.items octets.new.items }
 {
     match scanner.scan_ascii_str(type_in) {
-        Ok(number) => append::<S>(octets, &number.to_be_bytes()),
+        Ok(number) => append_number::<S>(octets, &number.to_be_bytes()),
         Err(error) => Err(error),
     }
 }
@@ -337,7 +337,7 @@ fn scan_algorithm<S: EntryScanner>(scanner: &mut S, octets: &mut Vec<u8>) -> Res
     ensures more { GoesOn octets.old.items octets.new.items }
 {
     match scanner.scan_ascii_str(algorithm_in) {
-        Ok(number) => append::<S>(octets, &[number]),
+        Ok(number) => append_number::<S>(octets, &[number]),
         Err(error) => Err(error),
     }
 }
@@ -362,7 +362,7 @@ fn scan_certificate_type<S: EntryScanner>(
     ensures more { GoesOn octets.old.items octets.new.items }
 {
     match scanner.scan_ascii_str(certificate_type_in) {
-        Ok(number) => append::<S>(octets, &number.to_be_bytes()),
+        Ok(number) => append_number::<S>(octets, &number.to_be_bytes()),
         Err(error) => Err(error),
     }
 }
@@ -384,7 +384,7 @@ fn scan_time<S: EntryScanner>(scanner: &mut S, octets: &mut Vec<u8>) -> Result<(
     ensures more { GoesOn octets.old.items octets.new.items }
 {
     match scanner.scan_ascii_str(time_in) {
-        Ok(time) => append::<S>(octets, &time.to_be_bytes()),
+        Ok(time) => append_number::<S>(octets, &time.to_be_bytes()),
         Err(error) => Err(error),
     }
 }
@@ -522,4 +522,20 @@ fn append<S: EntryScanner>(octets: &mut Vec<u8>, more: &[u8]) -> Result<(), S::E
         Ok(()) => Ok(()),
         Err(_) => Err(S::Error::short_buf()),
     }
+}
+
+/// Appends the octets of a number, which are few. Fails with `short_buf` if out of memory.
+#[inline(always)]
+fn append_number<S: EntryScanner>(octets: &mut Vec<u8>, number: &[u8]) -> Result<(), S::Error>
+    ensures ok { OnOk result (octets.new.items ≡ octets.old.items ++ number.now) }
+    ensures err { IfErr result (λ error. S.Error.is_short error ≡ true) }
+    ensures more { GoesOn octets.old.items octets.new.items }
+{
+    if octets.reserve(number.len()).is_err() {
+        return Err(S::Error::short_buf());
+    }
+    for index in 0..number.len() {
+        octets.push_reserved(number[index]);
+    }
+    Ok(())
 }

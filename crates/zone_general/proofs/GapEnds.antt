@@ -1,9 +1,9 @@
 -- Where the gap before a token ends, and the token behind it.
-use Rattle.std.proofs.Common.{◌≡◌, ◌+◌, ◌-◌, ◌*◌, ◌<◌, ◌≤◌, ◌++◌, ◌∙◌, ℕ, Bool, true, false, List, [], ◌∷◌, length, take, drop, get_or, if◌then◌else◌, Some, None, refl, sym, ap, subst, arith, append_assoc, length-append, length-drop}
+use Rattle.std.proofs.Common.{◌≡◌, ◌+◌, ◌-◌, ◌*◌, ◌<◌, ◌≤◌, ◌++◌, ◌∙◌, ℕ, Bool, true, false, List, [], ◌∷◌, length, drop, get_or, if◌then◌else◌, Some, None, refl, sym, ap, subst, arith, append_assoc, length-append, length-drop}
 use mir.Val.{bool_byte}
 use Rattle.std.proofs.lemmas.Bool.{eq-eqb, ne_eqb}
 use Rattle.std.proofs.lemmas.List.{drop_all, drop_more, drop-drop}
-use Rattle.std.proofs.Math.Seq.{take-append_seam, drop-append_seam}
+use Rattle.std.proofs.Math.Seq.{drop-append_seam}
 use Rattle.dns_scan.specs.Token.{Token}
 use Rattle.dns_text.specs.Tokens.{Head, Next, from_feed, head_of}
 use Rattle.dns_text.specs.Tokens.Head.{Go, Comment, Feed, Quote, Word, Refused}

@@ -1,4 +1,4 @@
-use Rattle.std.proofs.Common.{◌≡◌, ◌∙◌, length, rules}
+use Rattle.std.proofs.Common.{◌≡◌, length, rules}
 use Rattle.dns_field_texts.proofs.AppendedBase64.{goes_back}
 use Rattle.dns_field_texts.proofs.base64.append_next_groups.Goals as goal
 

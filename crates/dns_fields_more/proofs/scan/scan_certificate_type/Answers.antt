@@ -12,7 +12,7 @@ returns-in-Ok-clause-ok g c =
       is = record { kind = refl; is_field = search rules; keeps = tt };
       spelled = record { text = ran.0; takes = ran.1; reads_as = sym (ran.2.1 ∙ ap certificate_type_read ran.2.2) };
     })
-    c.to_be_bytes.ensures c.append.result c.append.ensures.ok
+    c.to_be_bytes.ensures c.append_number.result c.append_number.ensures.ok
 
 pub returns-in-Err-clause-err : goal.returns-in-Err-clause-err
 returns-in-Err-clause-err g c =

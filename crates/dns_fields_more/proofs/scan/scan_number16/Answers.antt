@@ -6,4 +6,4 @@ use Rattle.dns_fields_more.proofs.scan.scan_number16.Goals as goal
 pub returns-in-Ok-clause-ok : goal.returns-in-Ok-clause-ok
 returns-in-Ok-clause-ok g c =
     scanned _ _ _ (number16 c.in-Ok.number)
-    (record { is = record { kind = refl; is_field = search rules; keeps = tt }; spelled = c.in-Ok.ensures.ok }) (c.to_be_bytes.ensures) c.append.result c.append.ensures.ok
+    (record { is = record { kind = refl; is_field = search rules; keeps = tt }; spelled = c.in-Ok.ensures.ok }) (c.to_be_bytes.ensures) c.append_number.result c.append_number.ensures.ok

@@ -1,4 +1,4 @@
-use Rattle.std.proofs.Common.{◌≡◌, ◌+◌, ◌∙◌, List, ap, drop}
+use Rattle.std.proofs.Common.{◌≡◌, ◌+◌, ◌∙◌, ap, drop}
 use Rattle.dns_scan.specs.Token.{Token}
 use Rattle.dns_entry_scanner.proofs.HandedOn.{handed_on}
 use Rattle.dns_entry_scanner.specs.RowScanner.{tokens_of}
