@@ -3,13 +3,12 @@ ghost use Rattle.std.specs.Prelude.{◌≡◌, ◌↔◌, ◌++◌, ◌+◌, ◌
 ghost use Rattle.dns_entry_scanner.specs.EntryError.{is_memory};
 ghost use Rattle.dns_entry_scanner.specs.NameInText.{SpellsUnder};
 ghost use Rattle.dns_entry_scanner.specs.TokenSpan.{token_in};
-ghost use Rattle.dns_entry_scanner.specs.RowScanner.{names_of, tokens_of};
-ghost use Rattle.dns_scan.specs.Token.{SameNames, marker};
+ghost use Rattle.dns_scan.specs.Token.{marker};
 ghost use Rattle.dns_scan.specs.UnknownData.{IsUnknownData};
 ghost use Rattle.dns_fields.specs.Fields.{Field, octets as octets_of};
 ghost use Rattle.dns_fields_more.specs.Text.{ScansFurther};
 ghost use Rattle.zone_general.specs.LongerRow.{IsMarked, ScansLonger};
-ghost use Rattle.zone_general.specs.Seen.{IsFound, tokens_in};
+ghost use Rattle.zone_general.specs.Seen.{tokens_in};
 
 use crate::found_row::FoundRow;
 use crate::stated_type::RowType;
@@ -47,8 +46,7 @@ pub fn scan_data<'a>(
     origin: Option<&'a Name<Vec<u8>>>,
     octets: &mut Vec<u8>,
 ) -> Result<(), EntryError>
-    requires found { IsFound row }
-    requires within { kind.index < length row.spans.now }
+    requires { kind.index < length row.spans.now }
     ensures ok { OnOk result ((content : List ℕ)
         × ScansLonger (SpellsUnder (option_copied origin.entry)) kind.rtype (drop (kind.index + 1) (tokens_in row.entry)) content
         × (length content ≤ 65535) × (octets.new.items ≡ octets.old.items ++ content)) }
@@ -96,32 +94,20 @@ fn scan_fields<'a>(
     origin: Option<&'a Name<Vec<u8>>>,
     octets: &mut Vec<u8>,
 ) -> Result<(), EntryError>
-    requires found { IsFound row }
-    requires within { kind.index < length row.spans.now }
+    requires { kind.index < length row.spans.now }
     ensures ok { OnOk result ((fields : List Field)
         × ScansFurther (SpellsUnder (option_copied origin.entry)) kind.rtype fields (drop (kind.index + 1) (tokens_in row.entry)) []
         × (octets.new.items ≡ octets.old.items ++ octets_of fields)) }
     ensures err { IfErr result (λ error. is_memory error ≡ false → (fields : List Field)
         → ScansFurther (SpellsUnder (option_copied origin.entry)) kind.rtype fields (drop (kind.index + 1) (tokens_in row.entry)) [] → ⊥) }
 {
-    // A scanner over the whole row knows which of its tokens have no backslash.
-    let mut scanner: RowScanner<'_, InlineName> = RowScanner::of_row(
-        alloc, row.text, row.place, row.spans, origin,
+    let spans = &row.spans[kind.index + 1..];
+    let mut scanner: RowScanner<'_, InlineName> = RowScanner::new(
+        alloc, row.text, row.place, spans, origin,
     );
-    skip_tokens(&mut scanner, kind.index + 1);
     scan_further_into(Rtype::from_int(kind.rtype), &mut scanner, octets)?;
     if scanner.continues() {
         return Err(EntryError::TrailingTokens);
     }
     Ok(())
-}
-
-/// Takes so many tokens, as far as there are some.
-fn skip_tokens(scanner: &mut RowScanner<'_, InlineName>, count: usize)
-    ensures tokens { tokens_of scanner.new ≡ drop count (tokens_of scanner.old) }
-    ensures names { SameNames (names_of scanner.old) (names_of scanner.new) }
-{
-    for _ in 0..count {
-        scanner.skip_token();
-    }
 }
