@@ -1,5 +1,5 @@
 use Rattle.std.proofs.Common.{◌≡◌, ◌-◌, take}
-use Rattle.zone_records.proofs.suffix.are_same.Given as goal
+use Rattle.dns_wire.proofs.compare.words.are_same.Given as goal
 
 abbrev pub invariant-loop-place : goal.invariant-loop-place
 invariant-loop-place l = take l.place l.octets ≡ take l.place l.other

@@ -1,7 +1,7 @@
 use Rattle.std.proofs.Common.{◌≡◌, ◌-◌, length, arith}
 use Rattle.std.proofs.lemmas.Bool.Decides.{nat_tests, Decides-eqb}
-use Rattle.zone_records.proofs.SameOctets.{same_words, word_more, words_whole}
-use Rattle.zone_records.proofs.suffix.are_same.Goals as goal
+use Rattle.dns_wire.proofs.SameOctets.{same_words, word_more, words_whole}
+use Rattle.dns_wire.proofs.compare.words.are_same.Goals as goal
 
 pub loop-place-preserved : goal.loop-place-preserved
 loop-place-preserved c =

@@ -2,8 +2,8 @@ use Rattle.std.proofs.Common.{◌≡◌, ◌-◌, ◌≤◌, ◌∙◌, length, 
 use Rattle.std.specs.Int.{from_le_bytes, w64}
 use Rattle.std.proofs.lemmas.List.{length-drop, length-take, take-take}
 use Rattle.std.proofs.lemmas.Nat.{le_bytes_8}
-use Rattle.zone_records.proofs.SameOctets.{word_fits}
-use Rattle.zone_records.proofs.suffix.word_at.Goals as goal
+use Rattle.dns_wire.proofs.SameOctets.{word_fits}
+use Rattle.dns_wire.proofs.compare.words.word_at.Goals as goal
 
 pub returns : goal.returns
 returns c =
