@@ -1,5 +1,5 @@
 -- Vectors whose lanes are all ones or zero each, as comparisons leave them, and the masks that are made of them.
-use Rattle.std.proofs.Common.{◌≡◌, ℕ, ◌%◌, ◌^◌, ◌≤◌, ◌||◌, Bool, true, false, not, cond, List, [], ◌∷◌, map, length, refl, ap, ◌∙◌, arith}
+use Rattle.std.proofs.Common.{◌≡◌, ℕ, ◌+◌, ◌*◌, ◌%◌, ◌^◌, ◌≤◌, ◌||◌, Bool, true, false, not, cond, List, [], ◌∷◌, map, length, refl, ap, ◌∙◌, arith}
 use Rattle.std.proofs.lemmas.Simd.{zip2_of_maps, map-map, mask_l-mod}
 use Rattle.std.proofs.lemmas.List.{length-map}
 use lib.Bits.{bit_or}
@@ -32,3 +32,17 @@ mask_of_marks test octets few is =
     ap (λ l. mask_l (map (top 7) l) % 2 ^ 64) is ∙ ap (λ l. mask_l l % 2 ^ 64) (map-map (top 7) (λ octet. cond (test octet) 255 0) octets)
     ∙ ap (λ (mark : ℕ → Bool). mask_l (map mark octets) % 2 ^ 64) (λ i octet. mark_top (test octet) i)
     ∙ mask_l-mod (map (λ octet. not (not (test octet))) octets) 64 (omega (arith, length-map octets (λ octet. not (not (test octet)))))
+
+none_first : (one other : Bool) (mask mask' : ℕ) → cond one 1 0 + 2 * mask ≡ 0 → (one ≡ false → other ≡ false) → (mask ≡ 0 → mask' ≡ 0)
+    → cond other 1 0 + 2 * mask' ≡ 0
+none_first true other mask mask' none is on = absurd (omega arith)
+none_first false true mask mask' none is on = let no : true ≡ false = is refl in cc
+none_first false false mask mask' none is on = omega (arith, on (omega arith))
+
+-- an empty mask of one test, if another fails where it fails
+pub mask_none : (test test' : ℕ → Bool) → ((octet : ℕ) → test octet ≡ false → test' octet ≡ false) → (octets : List ℕ)
+    → mask_l (map test octets) ≡ 0 → mask_l (map test' octets) ≡ 0
+mask_none test test' is [] none = refl
+mask_none test test' is (octet ∷ octets) none =
+    none_first (test octet) (test' octet) (mask_l (map test octets)) (mask_l (map test' octets)) none (is octet)
+    (mask_none test test' is octets)

@@ -8,3 +8,4 @@ pub mod OctetRuns
 pub mod LabelTexts
 pub mod Seeing
 mod Tried
+pub mod PlainLabels

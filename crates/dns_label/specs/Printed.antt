@@ -1,5 +1,5 @@
 -- How labels and names are printed.
-use Rattle.std.specs.Prelude.{◌==◌, ◌&&◌, ◌||◌, ℕ, Bool, List, [], ◌∷◌, ◌++◌, nat_lt, if◌then◌else◌}
+use Rattle.std.specs.Prelude.{◌==◌, ◌&&◌, ◌||◌, ℕ, Bool, List, [], ◌∷◌, ◌++◌, nat_lt, not, if◌then◌else◌}
 use Rattle.std.specs.List.{flat_map}
 use Rattle.dns_label.specs.declared.symbol.Symbol.{Symbol}
 use Rattle.dns_label.specs.declared.symbol.Symbol.TheVariants.{Char, SimpleEscape, DecimalEscape}
@@ -17,6 +17,10 @@ abbrev pub printed_symbol : ℕ → Symbol
 printed_symbol octet =
     if is_special octet then SimpleEscape octet
     else (if nat_lt 32 octet && nat_lt octet 127 then Char octet else DecimalEscape octet)
+
+-- an octet that is printed as itself
+abbrev pub is_printed_as_itself : ℕ → Bool
+is_printed_as_itself octet = (nat_lt 32 octet && nat_lt octet 127) && not (is_special octet)
 
 abbrev pub printed_label : List ℕ → List ℕ
 printed_label label = flat_map (λ octet. spelled (printed_symbol octet)) label

@@ -11,6 +11,7 @@ mod slice_labels;
 
 pub use lent::LabelMut;
 pub use owned::{LabelFromStrError, OwnedLabel, OwnedLabelMut};
+pub use print::PlainLabelOctets;
 pub use slice_labels::SliceLabelsIter;
 use std::alloc::AllocError;
 use thiserror::Error;

@@ -11,7 +11,7 @@ mod symbols;
 
 pub use label::{
     Label, LabelFromStrError, LabelMut, LabelTypeError, LongLabelError, OwnedLabel, OwnedLabelMut,
-    SliceLabelsIter, SplitLabelError,
+    PlainLabelOctets, SliceLabelsIter, SplitLabelError,
 };
 pub use octet_run::{OctetKind, run_end};
 pub use symbol::{BadSymbol, Symbol, SymbolCharsError};

@@ -31,8 +31,8 @@ pub use dns_flat::{
 };
 pub use dns_label::{
     BadSymbol, Label, LabelFromStrError, LabelMut, LabelTypeError, LongLabelError, OctetKind,
-    OwnedLabel, OwnedLabelMut, SliceLabelsIter, SplitLabelError, Symbol, SymbolCharsError, Symbols,
-    run_end,
+    OwnedLabel, OwnedLabelMut, PlainLabelOctets, SliceLabelsIter, SplitLabelError, Symbol,
+    SymbolCharsError, Symbols, run_end,
 };
 pub use dns_octets::{
     AppendError, Compose, EmptyBuilder, FormError, FreezeBuilder, FromBuilder, Octets,

@@ -1,16 +1,16 @@
-use Rattle.std.proofs.Common.{◌≡◌, take, arith, rules}
-use Rattle.std.proofs.lemmas.Grind.{common_steps}
+use Rattle.std.proofs.Common.{sym, ap, ◌∙◌, arith}
 use Rattle.std.proofs.lemmas.Str.{IsUtf8-from_ascii}
-use Rattle.std.proofs.lemmas.Str.Ascii.{IsAscii-more}
+use Rattle.dns_label.specs.Printed.{printed_label}
+use Rattle.dns_label.proofs.PlainLabels.{run_plain, printed_label-plain, IsAscii-plain}
 use Rattle.dns_label.proofs.label.Label.plain_text.Goals as goal
-
-pub loop-octet-preserved : goal.loop-octet-preserved
-loop-octet-preserved c =
-    let at = c.loop-octet.octet-index in
-    let octets = c.as_slice-octets.result.now in
-    (grind (arith, common_steps), IsAscii-more octets at c.loop-octet-test.true c.loop-octet.invariant.1 (search rules))
 
 pub from_utf8_unchecked-requires : goal.from_utf8_unchecked-requires
 from_utf8_unchecked-requires c =
-    let whole : take c.loop-octet.octet-index c.as_slice-octets.result.now ≡ c.as_slice-octets.result.now = grind (arith, common_steps) in
-    IsUtf8-from_ascii c.as_slice-octets.result.now (rw whole at c.loop-octet.invariant.1)
+    let octets = c.as_slice-octets.result.now in
+    IsUtf8-from_ascii octets (IsAscii-plain octets (run_plain octets (omega arith)))
+
+pub returns : goal.returns
+returns c =
+    let octets = c.as_slice-octets.result.now in
+    c.from_utf8_unchecked.ensures ∙ sym (printed_label-plain octets (run_plain octets (omega arith)))
+    ∙ ap printed_label c.as_slice-octets.ensures
