@@ -18,3 +18,4 @@ mod RelativeTexts
 mod RelativeRefusals
 mod SpelledTexts
 pub mod Decimals
+mod PlainNames

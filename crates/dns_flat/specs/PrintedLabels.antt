@@ -1,5 +1,5 @@
 -- How relative names are printed, and names whose labels are seen one by one (RFC 1035 5.1).
-use Rattle.std.specs.Prelude.{ℕ, List, [], ◌∷◌, ◌++◌}
+use Rattle.std.specs.Prelude.{ℕ, List, [], ◌∷◌, ◌++◌, ◌+◌, length, take, drop}
 use Rattle.std.specs.List.{flat_map}
 use Rattle.dns_label.specs.Printed.{printed_label}
 
@@ -17,3 +17,9 @@ printed_relative (label ∷ labels) = printed_label label ++ printed_behind labe
 abbrev pub printed_seen : List (List ℕ) → List ℕ
 printed_seen ([] ∷ labels) = 46 ∷ []
 printed_seen labels = printed_relative labels
+
+-- a text with this octet behind each label, in place of the one there
+abbrev pub with_ends : ℕ → List (List ℕ) → List ℕ → List ℕ
+with_ends mark [] text = text
+with_ends mark (label ∷ labels) text =
+    take (length label) text ++ mark ∷ with_ends mark labels (drop (length label + 1) text)

@@ -11,7 +11,7 @@ use crate::{Chain, Name, RelativeName, ToName};
 use arrayvec::ArrayString;
 use dns_octets::Octets;
 use dns_wire::{LabelIter, ToLabelIter};
-use plain::push_name;
+use plain::{PLAIN, ROOM, plain_text, push_name};
 use std::fmt;
 use std::marker::Model;
 
@@ -40,6 +40,12 @@ impl<N: ToName> fmt::Display for DisplayWithDot<'_, N> {
     ghost output = { λ name. Some (printed_name name) };
 
     fn fmt<W: fmt::Write>(&self, f: &mut fmt::Formatter<W>) -> fmt::Result {
+        if let Some(octets) = self.name.as_flat_slice() {
+            let mut text = [PLAIN; ROOM];
+            if let Some(text) = plain_text(&mut text, octets) {
+                return f.write_str(text);
+            }
+        }
         write_name(f, self.name)
     }
 }
