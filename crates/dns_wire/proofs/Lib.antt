@@ -23,3 +23,4 @@ pub mod LowNames
 pub mod FlatEnds
 pub mod FlatForms
 pub mod NameFronts
+mod SameOctets

@@ -8,8 +8,11 @@ ghost use Rattle.dns_wire.specs.Flat.{IsWritten};
 ghost use Rattle.dns_wire.specs.Order.{label_order, labels_order};
 ghost use Rattle.dns_wire.specs.Suffix.{EndsWith, StartsWith};
 
+mod words;
+
 use crate::{LabelIter, ToLabelIter};
 use std::cmp::Ordering;
+use words::are_same;
 
 /// Returns whether the labels of `name` begin with those of `start`, up to ASCII case.
 pub fn starts_with<N: ToLabelIter, B: ToLabelIter>(name: &N, start: &B) -> bool
@@ -42,7 +45,9 @@ pub fn ends_with<N: ToLabelIter, B: ToLabelIter>(name: &N, end: &B) -> bool
 }
 
 /// Returns whether the name in these octets ends with the other one, up to ASCII case. A name has at most one suffix
-/// with a given number of octets, so that suffix alone is compared.
+/// with a given number of octets, so that suffix alone is compared. It is called once per record of a zone, so it is
+/// inlined.
+#[inline(always)]
 pub fn flat_ends_with(octets: &[u8], end: &[u8]) -> bool
     requires name { IsWritten octets.now }
     requires end { IsWritten «end».now }
@@ -63,10 +68,11 @@ pub fn flat_ends_with(octets: &[u8], end: &[u8]) -> bool
 
 /// Returns whether octets are the same up to ASCII case. Most that are so also have the same case, which is found
 /// faster.
+#[inline(always)]
 fn is_same_text(octets: &[u8], other: &[u8]) -> bool
     ensures { IsTrue result ↔ (map to_ascii_lowercase octets.now ≡ map to_ascii_lowercase other.now) }
 {
-    octets == other || octets.eq_ignore_ascii_case(other)
+    are_same(octets, other) || octets.eq_ignore_ascii_case(other)
 }
 
 /// Returns the number of labels, at most 128.
