@@ -13,7 +13,6 @@ pub mod DecidedData
 pub mod WrittenData
 pub mod WrittenRecords
 pub mod RecordOctets
-mod SameOctets
 pub mod CheckedData
 pub use Rattle.dns_message.proofs.ComposedRows
 pub use Rattle.dns_message.proofs.Spellable

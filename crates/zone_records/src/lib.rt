@@ -9,5 +9,4 @@ pub mod octets;
 pub mod record;
 pub mod record_data;
 pub mod record_list;
-mod suffix;
 pub mod typed;

@@ -6,9 +6,9 @@ ghost use Rattle.dns_wire.specs.Suffix.{EndsWith};
 ghost use Rattle.zone_records.specs.Record as spec;
 ghost use Rattle.zone_records.specs.Zone.{soa_type};
 
-use crate::suffix::flat_ends_with;
 use dns_name::{Class, Name, Rtype, ToName, Ttl, first_name};
 use dns_octets::number_at;
+use dns_wire::compare::flat_ends_with;
 use std::marker::Model;
 
 /// The length of a record without its owner and its data: type, class, TTL and RDLENGTH (RFC 1035 3.2.1).
