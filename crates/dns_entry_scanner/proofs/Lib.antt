@@ -2,6 +2,7 @@ pub mod PlainOctets
 pub mod TokenRuns
 pub mod Steps
 pub mod Rows
+pub mod RowFronts
 pub mod PlainTokens
 pub mod OneNameInText
 pub mod ChainedNames

@@ -2,17 +2,18 @@
 use Rattle.std.proofs.Common.{◌≡◌, ◌==◌, ℕ, ◌+◌, ◌<◌, ◌≤◌, Bool, true, false, List, [], ◌∷◌, ◌++◌, length, map, drop, get_or, Option, Some, None, if◌then◌else◌, not, refl, sym, ◌∙◌, ap, subst, arith, length-append}
 use Rattle.std.proofs.lemmas.List.{append-nil, drop_more, length-drop}
 use Rattle.std.specs.Prelude.{All}
-use Rattle.std.proofs.lemmas.List.Elements.{All-push}
+use Rattle.std.proofs.lemmas.List.Elements.{All-nil, All-push}
 use Rattle.std.proofs.lemmas.Bool.Decides.{Decides-eqb}
 use Rattle.dns_scan.specs.Token.{Token}
 use Rattle.dns_text.specs.Rows.{is_led}
 use Rattle.dns_text.specs.Tokens.{Next, Row, from_feed, has_feed, is_end}
 use Rattle.dns_text.specs.Tokens.Next.{ended, goes, comment, quoted, unquoted}
 use Rattle.dns_text.specs.Tokens.Row.{end, token}
+use Rattle.dns_entry_scanner.specs.BegunRow.{BegunRow}
 use Rattle.dns_entry_scanner.specs.RowFound.{IsRowAt, NoRow}
 use Rattle.dns_entry_scanner.specs.TokenSpan.{IsMarked, NoNext, token_in}
 use Rattle.dns_entry_scanner.specs.declared.token_span.TokenSpan.{TokenSpan}
-use Rattle.dns_entry_scanner.proofs.Steps.{one_next}
+use Rattle.dns_entry_scanner.proofs.Steps.{SameNext, one_next}
 
 -- the rest is shorter
 feed_shorter : (octet : ℕ) (text : List ℕ) (feed : Bool) → length (from_feed text) ≤ length text
@@ -47,32 +48,24 @@ row_behind {out = out} {left = left} {rest = rest} first (token {found = found'}
     let same = one_next first (Some found') out' left' next in
     (others, subst (λ (b : Bool). Row b left others rest) (sym same.outs) (subst (λ (l : List ℕ). Row out' l others rest) (sym same.rests) row))
 
--- The tokens so far: the row goes on with those of the rest, and with no others.
-pub record Held (text : List ℕ) (place : ℕ) (spans : List TokenSpan) (inside : Bool) (left : List ℕ) : Type 0 where
-  pub on : (others : List Token) (rest : List ℕ) → Row inside left others rest
-      → Row false (drop place text) (map (λ span. token_in text span) spans ++ others) rest
-  pub back : (tokens : List Token) (rest : List ℕ) → Row false (drop place text) tokens rest
-      → (others : List Token) × Row inside left others rest
-  pub marked : All (IsMarked text) spans
-
 tokens_more : (text : List ℕ) (spans : List TokenSpan) (span : TokenSpan) (others : List Token)
     → map (λ s. token_in text s) (spans ++ span ∷ []) ++ others ≡ map (λ s. token_in text s) spans ++ (token_in text span ∷ others)
 tokens_more text [] span others = refl
 tokens_more text (first ∷ spans) span others = ap (λ l. token_in text first ∷ l) (tokens_more text spans span others)
 
 pub held_more : {text left behind : List ℕ} {place : ℕ} {spans all : List TokenSpan} {inside out : Bool} (span : TokenSpan) (seen : List ℕ)
-    → Held text place spans inside left → seen ≡ text → Next inside left (Some (token_in seen span)) out behind → IsMarked seen span
-    → all ≡ spans ++ span ∷ [] → Held text place all out behind
+    → BegunRow text place spans inside left → seen ≡ text → Next inside left (Some (token_in seen span)) out behind → IsMarked seen span
+    → all ≡ spans ++ span ∷ [] → BegunRow text place all out behind
 held_more {text} {left} {behind} {place} {spans} {all} {inside} {out} span seen held same next marked is =
     let here : Next inside left (Some (token_in text span)) out behind =
     subst (λ (l : List ℕ). Next inside left (Some (token_in l span)) out behind) same next in
-    let more : Held text place (spans ++ span ∷ []) out behind = record {
+    let more : BegunRow text place (spans ++ span ∷ []) out behind = record {
       on = λ others rest row. subst (λ (l : List Token). Row false (drop place text) l rest) (sym (tokens_more text spans span others))
           (held.on (token_in text span ∷ others) rest (token out behind here row));
       back = λ tokens rest row. let left_row = held.back tokens rest row in row_behind here left_row.1;
       marked = All-push (IsMarked text) spans span held.marked (subst (λ (l : List ℕ). IsMarked l span) same marked);
     } in
-    subst (λ (l : List TokenSpan). Held text place l out behind) (sym is) more
+    subst (λ (l : List TokenSpan). BegunRow text place l out behind) (sym is) more
 
 -- a row ends outside parentheses
 ends_outside : {inside out : Bool} {text rest : List ℕ} → Next inside text None out rest → out ≡ false
@@ -81,7 +74,7 @@ ends_outside (goes octet behind head next) = ends_outside next
 ends_outside (comment octet head next) = ends_outside next
 
 pub held_last : {text left behind : List ℕ} {place next : ℕ} {spans : List TokenSpan} {inside out blank_led : Bool} (seen : List ℕ)
-    → Held text place spans inside left → seen ≡ text → Next inside left None out behind → drop next seen ≡ behind → next ≤ length seen
+    → BegunRow text place spans inside left → seen ≡ text → Next inside left None out behind → drop next seen ≡ behind → next ≤ length seen
     → blank_led ≡ is_led (drop place text) → IsRowAt text place spans next blank_led
 held_last {text} {left} {behind} {place} {next} {spans} {inside} {out} {blank_led} seen held same ends at within leads =
     let tokens = map (λ span. token_in text span) spans in
@@ -102,7 +95,7 @@ none_of_row : {inside : Bool} {text rest : List ℕ} {tokens : List Token} → N
 none_of_row none (end next) = none _ _ _ next
 none_of_row none (token out left next others) = none _ _ _ next
 
-pub held_broken : {text left : List ℕ} {place : ℕ} {spans : List TokenSpan} {inside : Bool} → Held text place spans inside left
+pub held_broken : {text left : List ℕ} {place : ℕ} {spans : List TokenSpan} {inside : Bool} → BegunRow text place spans inside left
     → NoNext inside left → NoRow (drop place text)
 held_broken held none tokens rest row = let left_row = held.back tokens rest row in none_of_row none left_row.1
 
@@ -122,3 +115,26 @@ pub end_at_comment : (text : List ℕ) (place stop : ℕ) → place < length tex
 end_at_comment text place stop within is feed =
     ap is_end (drop_more text place 0 within) ∙ ap (λ (n : ℕ). is_end (n ∷ drop (place + 1) text)) is
     ∙ end_behind_comment (drop (place + 1) text) ∙ ap is_end (sym feed)
+
+-- a row that begins with nothing
+pub held_none : (text : List ℕ) (place : ℕ) → BegunRow text place [] false (drop place text)
+held_none text place = record { on = λ others rest row. row; back = λ tokens rest row. (tokens, row); marked = All-nil (IsMarked text) }
+
+-- and what is passed over
+row_on : {inside inside' : Bool} {left left' rest : List ℕ} {tokens : List Token} → SameNext inside left inside' left'
+    → Row inside' left' tokens rest → Row inside left tokens rest
+row_on same (end next) = end (same.on _ _ _ next)
+row_on same (token out behind next row) = token out behind (same.on _ _ _ next) row
+
+row_back : {inside inside' : Bool} {left left' rest : List ℕ} {tokens : List Token} → SameNext inside left inside' left'
+    → Row inside left tokens rest → Row inside' left' tokens rest
+row_back same (end next) = end (same.back _ _ _ next)
+row_back same (token out behind next row) = token out behind (same.back _ _ _ next) row
+
+pub held_over : {text left left' : List ℕ} {place : ℕ} {spans : List TokenSpan} {inside inside' : Bool} → BegunRow text place spans inside left
+    → SameNext inside left inside' left' → BegunRow text place spans inside' left'
+held_over held same = record {
+  on = λ others rest row. held.on others rest (row_on same row);
+  back = λ tokens rest row. let at = held.back tokens rest row in (at.0, row_back same at.1);
+  marked = held.marked;
+}

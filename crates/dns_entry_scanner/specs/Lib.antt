@@ -4,6 +4,7 @@ pub mod TokenSpan
 pub mod TokenEnd
 pub mod Step
 pub mod RowReader
+pub mod BegunRow
 pub mod RowFound
 pub mod NameInText
 pub mod EntryError

@@ -20,6 +20,7 @@ mod head;
 mod inline_name;
 mod plain_octets;
 mod row;
+mod row_front;
 mod row_reader;
 mod row_scanner;
 mod row_token;

@@ -6,6 +6,7 @@ ghost use Rattle.dns_entry_scanner.specs.RowFound.{NoRow, IsFoundAt};
 ghost use Rattle.dns_entry_scanner.specs.declared.token_span.TokenSpan.{TokenSpan};
 
 use crate::plain_octets::line_end;
+use crate::row_front::read_front;
 use crate::{RowReader, TokenSpan};
 use std::alloc::AllocError;
 
@@ -36,7 +37,14 @@ pub fn read_row(
     ensures { IfOk result (λ found. IsFoundAt text.now place tokens.new.items found) }
 {
     tokens.clear();
-    let mut reader = RowReader::new(text, place);
+    let front = read_front(text, place, tokens)?;
+    if front.is_whole {
+        return Ok(RowFound::Row {
+            next: front.place,
+            blank_led: is_led_at(text, place),
+        });
+    }
+    let mut reader = RowReader::new(text, front.place);
     loop {
         match reader.next_token() {
             Ok(Some(token)) => tokens.push(token.by_fields())?,

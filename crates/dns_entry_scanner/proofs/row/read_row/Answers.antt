@@ -20,7 +20,7 @@ pub returns-in-Ok-None : goal.returns-in-Ok-None
 returns-in-Ok-None c =
     let ends = rw c.in-Ok-None.field-0-is at c.in-Ok-None.ensures.found in
     let so_far = c.loop-token.invariant in
-    held_last _ so_far.held (c.next_token.ensures.text ∙ so_far.text) ends c.place.ensures.left c.place.ensures.within c.is_led_at.ensures
+    held_last _ so_far.held (c.next_token.ensures.text ∙ so_far.text) ends c.place.ensures.left c.place.ensures.within c.is_led_at-in-Ok-None.ensures
 
 pub end_or_broken-requires : goal.end_or_broken-requires
 end_or_broken-requires c = held_broken c.loop-token.invariant.held c.in-Err.ensures.broken

@@ -1,0 +1,199 @@
+-- The fronts of rows, found by the mask of 64 octets.
+use Rattle.std.proofs.Common.{◌≡◌, ◌==◌, ◌||◌, ◌+◌, ◌-◌, ◌*◌, ◌/◌, ◌^◌, ◌<◌, ◌≤◌, ℕ, suc, zero, Bool, true, false, not, cond, nat_lt, List, [], ◌∷◌, ◌++◌, Some, length, map, take, drop, get_or, refl, sym, ◌∙◌, ap, subst, arith, length-append, length-drop}
+use native.Mathlib.Nat.{pow-suc, mul_comm, mul_assoc}
+use lib.Count.{count_trailing_zeros}
+use lib.Lanes.{chunk, mask_l}
+use Rattle.std.specs.List.{prefix_len}
+use Rattle.std.proofs.Math.Seq.{drop-append-le, take-add}
+use Rattle.std.proofs.lemmas.Bool.{or_parts, not-true, ltb-false, ne_eqb, eqb-false}
+use Rattle.std.proofs.lemmas.List.{drop-drop, drop_more, length-map, take_all}
+use Rattle.std.proofs.lemmas.Simd.{chunk-drop, length-chunk, mask_l-lt}
+use Rattle.dns_label.proofs.OctetRuns.{last_mask, some_other}
+use Rattle.dns_text.specs.Rows.{is_led}
+use Rattle.dns_text.specs.Tokens.{Head, Next, head_of, is_gap}
+use Rattle.dns_text.specs.Tokens.Head.{Feed, Go, Word}
+use Rattle.dns_entry_scanner.specs.BegunRow.{BegunRow}
+use Rattle.dns_entry_scanner.specs.Octets.{is_in_word, is_plain_in}
+use Rattle.dns_entry_scanner.specs.RowFound.{IsRowAt}
+use Rattle.dns_entry_scanner.specs.TokenEnd.{HasEscape, NoEscape, RunsTo, between}
+use Rattle.dns_entry_scanner.specs.TokenSpan.{has_backslash, token_in}
+use Rattle.dns_entry_scanner.specs.declared.token_end.TokenEnd.{TokenEnd}
+use Rattle.dns_entry_scanner.specs.declared.token_span.TokenSpan.{TokenSpan}
+use Rattle.dns_entry_scanner.proofs.Rows.{held_last, held_more, held_none, held_over}
+use Rattle.dns_entry_scanner.proofs.Steps.{SameNext, next_feed, next_word, same_go}
+use Rattle.dns_entry_scanner.proofs.TokenRuns.{over_to, runs_to, taken_to}
+
+-- the mask of the octets that are in no word
+abbrev others : List ℕ → ℕ
+others octets = mask_l (map (λ octet. not (is_in_word octet)) octets)
+
+-- a run that ends among the octets
+stops_case : (b : Bool) (mask run len : ℕ) → 0 < cond (not b) 1 0 + 2 * mask → (0 < mask → run < len) → cond b (1 + run) 0 < suc len
+stops_case true mask run len some less = omega (arith, less (omega arith))
+stops_case false mask run len some less = omega arith
+
+stops_within : (octets : List ℕ) → 0 < others octets → prefix_len is_in_word octets < length octets
+stops_within [] some = absurd (omega (arith, some))
+stops_within (octet ∷ octets) some =
+    stops_case (is_in_word octet) (others octets) (prefix_len is_in_word octets) (length octets) some (stops_within octets)
+
+front_case : (b : Bool) (whole run len : ℕ) → cond b (1 + run) 0 < suc len → (run < len → whole ≡ run)
+    → cond b (1 + whole) 0 ≡ cond b (1 + run) 0
+front_case true whole run len less same = ap (λ n. 1 + n) (same (omega (arith, less)))
+front_case false whole run len less same = refl
+
+prefix_front : (front rest : List ℕ) → prefix_len is_in_word front < length front
+    → prefix_len is_in_word (front ++ rest) ≡ prefix_len is_in_word front
+prefix_front [] rest less = absurd (omega (arith, less))
+prefix_front (octet ∷ front) rest less =
+    front_case (is_in_word octet) (prefix_len is_in_word (front ++ rest)) (prefix_len is_in_word front) (length front) less (prefix_front front rest)
+
+-- the mask behind an index
+mask_from : (octets : List ℕ) (at : ℕ) → length octets ≡ 64 → others octets / 2 ^ at ≡ others (drop at octets)
+mask_from octets at size =
+    let all : chunk 0 64 octets ≡ octets = take_all 64 octets (omega (arith, size)) in
+    let same : at ≡ at - 0 = omega arith in
+    ap (λ l. others l / 2 ^ at) (sym all) ∙ ap (λ n. others (chunk 0 64 octets) / 2 ^ n) same
+    ∙ last_mask is_in_word octets 0 at 64 (omega (arith, size)) (omega arith)
+
+pub record WordAt (octets : List ℕ) (at len : ℕ) : Type 0 where
+  pub len_is : len ≡ prefix_len is_in_word (drop at octets)
+  pub within : at + len < 64
+
+pub word_at : (octets : List ℕ) (at ends : ℕ) → at < 64 → length octets ≡ 64 → ends ≡ others octets → 0 < ends / 2 ^ at
+    → WordAt octets at (count_trailing_zeros 64 (ends / 2 ^ at))
+word_at octets at ends less size is some =
+    let mask : ends / 2 ^ at ≡ others (drop at octets) = ap (λ n. n / 2 ^ at) is ∙ mask_from octets at size in
+    let left : length (drop at octets) ≡ 64 - at = length-drop at octets ∙ ap (λ n. n - at) size in
+    let more : 0 < others (drop at octets) = omega (arith, some, mask) in
+    let run = some_other is_in_word (drop at octets) (omega (arith, left)) more in
+    let same : count_trailing_zeros 64 (ends / 2 ^ at) ≡ prefix_len is_in_word (drop at octets) =
+    ap (count_trailing_zeros 64) mask ∙ sym run in record {
+      len_is = same;
+      within = omega (arith, same, left, stops_within (drop at octets) more, less);
+    }
+
+-- four masks of sixteen octets as one
+others_append : (front rest : List ℕ) → others (front ++ rest) ≡ others front + 2 ^ length front * others rest
+others_append [] rest = omega arith
+others_append (octet ∷ front) rest =
+    let more = others_append front rest in
+    let power : 2 ^ suc (length front) * others rest ≡ 2 * (2 ^ length front * others rest) =
+    ap (λ n. n * others rest) (pow-suc 2 (length front) ∙ mul_comm (2 ^ length front) 2) ∙ mul_assoc 2 (2 ^ length front) (others rest) in
+    omega (arith, more, power)
+
+chunk_add : (place n m : ℕ) (text : List ℕ) → chunk place (n + m) text ≡ chunk place n text ++ chunk (place + n) m text
+chunk_add place n m text =
+    take-add n m (drop place text) ∙ ap (λ l. take n (drop place text) ++ take m l) (drop-drop n place text)
+
+others_add : (place m : ℕ) (text : List ℕ) → place + 16 ≤ length text
+    → others (chunk place (16 + m) text) ≡ others (chunk place 16 text) + 65536 * others (chunk (place + 16) m text)
+others_add place m text room =
+    ap others (chunk_add place 16 m text) ∙ others_append (chunk place 16 text) (chunk (place + 16) m text)
+    ∙ ap (λ n. others (chunk place 16 text) + 2 ^ n * others (chunk (place + 16) m text)) (length-chunk place 16 text room)
+
+pub mask_less : (text : List ℕ) (place : ℕ) → place + 16 ≤ length text → others (chunk place 16 text) < 65536
+mask_less text place room =
+    let bits = map (λ octet. not (is_in_word octet)) (chunk place 16 text) in
+    let size : length bits ≡ 16 = length-map (chunk place 16 text) (λ octet. not (is_in_word octet)) ∙ length-chunk place 16 text room in
+    subst (λ n. mask_l bits < 2 ^ n) size (mask_l-lt bits)
+
+pub four_masks : (text : List ℕ) (place : ℕ) → place + 64 ≤ length text
+    → others (chunk place 64 text) ≡ others (chunk place 16 text) + others (chunk (place + 16) 16 text) * 65536
+    + others (chunk (place + 32) 16 text) * 4294967296 + others (chunk (place + 48) 16 text) * 281474976710656
+four_masks text place room =
+    let two : (place + 16) + 16 ≡ place + 32 = omega arith in
+    let three : (place + 32) + 16 ≡ place + 48 = omega arith in
+    omega
+    (arith, others_add place 48 text (omega (arith, room)), others_add (place + 16) 32 text (omega (arith, room)),
+    ap (λ n. others (chunk n 32 text)) two, others_add (place + 32) 16 text (omega (arith, room)), ap (λ n. others (chunk n 16 text)) three)
+
+-- an octet of a word begins one
+word_head : (octet : ℕ) → is_in_word octet ≡ true → head_of false octet ≡ Word
+word_head octet is =
+    let all = or_parts (((nat_lt octet 33 || nat_lt 126 octet) || ((octet == 40) || (octet == 41))) || ((octet == 34) || (octet == 59))) (octet == 92) (not-true _ is) in
+    let three = or_parts ((nat_lt octet 33 || nat_lt 126 octet) || ((octet == 40) || (octet == 41))) ((octet == 34) || (octet == 59)) all.0 in
+    let two = or_parts (nat_lt octet 33 || nat_lt 126 octet) ((octet == 40) || (octet == 41)) three.0 in
+    let range = or_parts (nat_lt octet 33) (nat_lt 126 octet) two.0 in
+    let parentheses = or_parts (octet == 40) (octet == 41) two.1 in
+    let marks = or_parts (octet == 34) (octet == 59) three.1 in
+    let low : 33 ≤ octet = ltb-false octet 33 range.0 in
+    rw (ne_eqb octet 32 (λ same. omega (arith, same, low)), ne_eqb octet 9 (λ same. omega (arith, same, low)),
+    ne_eqb octet 13 (λ same. omega (arith, same, low)), ne_eqb octet 10 (λ same. omega (arith, same, low)), parentheses.0, parentheses.1, marks.1, marks.0) refl
+
+first_case : (b : Bool) (run : ℕ) → 0 < cond b (1 + run) 0 → b ≡ true
+first_case true run some = refl
+first_case false run some = absurd (omega (arith, some))
+
+-- a word at a place of the text
+no_escape : (text : List ℕ) (place : ℕ) → place < length text → (get_or text place 0 ≡ 92 → ⊥) → NoEscape (drop place text)
+no_escape text place within other rest has =
+    let same : get_or text place 0 ∷ drop (place + 1) text ≡ 92 ∷ (has.octets ++ rest) =
+    sym (drop_more text place 0 within) ∙ has.whole ∙ ap (λ l. l ++ rest) has.escape in
+    let octet : get_or text place 0 ≡ 92 = cc in other octet
+
+refl_same : (inside : Bool) (text : List ℕ) → SameNext inside text inside text
+refl_same inside text = record { on = λ found out rest next. next; back = λ found out rest next. next }
+
+pub front_gap : {text : List ℕ} {place : ℕ} {spans : List TokenSpan} (start at : ℕ) → start + at < length text
+    → head_of false (get_or text (start + at) 0) ≡ Go false → BegunRow text place spans false (drop (start + at) text)
+    → BegunRow text place spans false (drop (start + (at + 1)) text)
+front_gap {text} {place} {spans} start at within head held =
+    let place_is : (start + at) + 1 ≡ start + (at + 1) = omega arith in
+    subst (λ n. BegunRow text place spans false (drop n text)) place_is
+    (held_over held (same_go text (start + at) within (refl_same false (drop (start + at) text)) false head))
+
+pub front_feed : {text : List ℕ} {place : ℕ} {spans : List TokenSpan} {blank_led : Bool} (at : ℕ) → at < length text → head_of false (get_or text at 0) ≡ Feed
+    → BegunRow text place spans false (drop at text) → blank_led ≡ is_led (drop place text) → IsRowAt text place spans (at + 1) blank_led
+front_feed {text} at within head held leads =
+    held_last text held refl (next_feed text at within (refl_same false (drop at text)) head) refl (omega (arith, within)) leads
+
+pub front_word : {text : List ℕ} {place : ℕ} {spans all : List TokenSpan} (start at len : ℕ) → start + 64 ≤ length text
+    → WordAt (chunk start 64 text) at len → 0 < len → (get_or text (start + at + len) 0 ≡ 92 → ⊥)
+    → BegunRow text place spans false (drop (start + at) text)
+    → all ≡ spans ++ (record { start = start + at; len = len; quoted = false; has_escape = false }) ∷ []
+    → BegunRow text place all false (drop (start + (at + len)) text)
+front_word {text} {place} {spans} {all} start at len room word some other held is =
+    let window = chunk start 64 text in
+    let rest = drop (start + 64) text in
+    let from = start + at in
+    let end : TokenEnd = record { place = from + len; has_escape = false } in
+    let size : length window ≡ 64 = length-chunk start 64 text room in
+    let split : drop from text ≡ drop at window ++ rest =
+    sym (drop-drop at start text) ∙ ap (drop {A = ℕ} at) (chunk-drop start 64 text)
+    ∙ drop-append-le at window rest (omega (arith, size, word.within)) in
+    let left : length (drop at window) ≡ 64 - at = length-drop at window ∙ ap (λ n. n - at) size in
+    let run : len ≡ prefix_len is_in_word (drop from text) =
+    word.len_is ∙ sym (prefix_front (drop at window) rest (omega (arith, sym word.len_is, left, word.within))) ∙ ap (prefix_len is_in_word) (sym split) in
+    let within : from < length text = omega (arith, room, word.within) in
+    let here = drop_more text from 0 within in
+    let first : is_in_word (get_or text from 0) ≡ true =
+    first_case (is_in_word (get_or text from 0)) (prefix_len is_in_word (drop (from + 1) text))
+    (omega (arith, some, run, ap (prefix_len is_in_word) here)) in
+    let none = no_escape text (from + len) (omega (arith, room, word.within)) other in
+    let end_is : from + len ≡ from + prefix_len (is_plain_in false) (drop from text) = ap (λ n. from + n) run in
+    let to : RunsTo false text from end =
+    runs_to false text from end (omega arith) (omega (arith, room, word.within)) (taken_to false text from (from + len) end_is)
+    (over_to false text from (from + len) end_is) none in
+    let span : TokenSpan = record { start = from; len = len; quoted = false; has_escape = false } in
+    let long : (from + len) - from ≡ len = omega arith in
+    let text_is : between from (from + len) text ≡ take len (drop from text) = ap (λ n. take n (drop from text)) long in
+    let next : Next false (drop from text) (Some (token_in text span)) false (drop (from + len) text) =
+    subst (λ l. Next false (drop from text) (Some (record { quoted = false; text = l })) false (drop (from + len) text)) text_is
+    (next_word false text from end within (omega arith) (omega (arith, room, word.within)) (word_head (get_or text from 0) first) to (λ none. omega (arith, none, some))) in
+    let place_is : from + len ≡ start + (at + len) = omega arith in
+    subst (λ n. BegunRow text place all false (drop n text)) place_is
+    (held_more span text held refl next (subst (λ l. false ≡ has_backslash l) text_is to.marked) is)
+
+pub front_none : {text : List ℕ} {spans : List TokenSpan} (place : ℕ) → spans ≡ [] → BegunRow text place spans false (drop (place + 0) text)
+front_none {text} {spans} place none =
+    let here : place ≡ place + 0 = omega arith in
+    subst (λ n. BegunRow text place spans false (drop n text)) here
+    (subst (λ l. BegunRow text place l false (drop place text)) (sym none) (held_none text place))
+
+pub window : (text : List ℕ) (place at len ends : ℕ) → place + 64 ≤ length text → ends ≡ others (chunk place 64 text) → 0 < len
+    → ((octets : List ℕ) → length octets ≡ 64 → ends ≡ others octets → 0 < len → len ≡ prefix_len is_in_word (drop at octets))
+    → ((octets : List ℕ) → length octets ≡ 64 → ends ≡ others octets → at + len < 64) → WordAt (chunk place 64 text) at len
+window text place at len ends room is some word within =
+    let size = length-chunk place 64 text room in
+    record { len_is = word (chunk place 64 text) size is some; within = within (chunk place 64 text) size is }
