@@ -104,9 +104,14 @@ pub four_masks : (text : List ℕ) (place : ℕ) → place + 64 ≤ length text
 four_masks text place room =
     let two : (place + 16) + 16 ≡ place + 32 = omega arith in
     let three : (place + 32) + 16 ≡ place + 48 = omega arith in
-    omega
-    (arith, others_add place 48 text (omega (arith, room)), others_add (place + 16) 32 text (omega (arith, room)),
-    ap (λ n. others (chunk n 32 text)) two, others_add (place + 32) 16 text (omega (arith, room)), ap (λ n. others (chunk n 16 text)) three)
+    omega (
+      arith,
+      others_add place 48 text (omega (arith, room)),
+      others_add (place + 16) 32 text (omega (arith, room)),
+      ap (λ n. others (chunk n 32 text)) two,
+      others_add (place + 32) 16 text (omega (arith, room)),
+      ap (λ n. others (chunk n 16 text)) three,
+    )
 
 -- an octet of a word begins one
 word_head : (octet : ℕ) → is_in_word octet ≡ true → head_of false octet ≡ Word
@@ -118,8 +123,16 @@ word_head octet is =
     let parentheses = or_parts (octet == 40) (octet == 41) two.1 in
     let marks = or_parts (octet == 34) (octet == 59) three.1 in
     let low : 33 ≤ octet = ltb-false octet 33 range.0 in
-    rw (ne_eqb octet 32 (λ same. omega (arith, same, low)), ne_eqb octet 9 (λ same. omega (arith, same, low)),
-    ne_eqb octet 13 (λ same. omega (arith, same, low)), ne_eqb octet 10 (λ same. omega (arith, same, low)), parentheses.0, parentheses.1, marks.1, marks.0) refl
+    rw (
+      ne_eqb octet 32 (λ same. omega (arith, same, low)),
+      ne_eqb octet 9 (λ same. omega (arith, same, low)),
+      ne_eqb octet 13 (λ same. omega (arith, same, low)),
+      ne_eqb octet 10 (λ same. omega (arith, same, low)),
+      parentheses.0,
+      parentheses.1,
+      marks.1,
+      marks.0,
+    ) refl
 
 first_case : (b : Bool) (run : ℕ) → 0 < cond b (1 + run) 0 → b ≡ true
 first_case true run some = refl

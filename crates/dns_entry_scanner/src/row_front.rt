@@ -8,7 +8,6 @@ ghost use Rattle.dns_entry_scanner.specs.Octets.{is_in_word};
 ghost use Rattle.dns_entry_scanner.specs.RowFound.{IsRowAt};
 
 use crate::TokenSpan;
-use crate::head::{Head, head_of};
 use crate::plain_octets::WordOctets;
 use dns_name::OctetKind;
 use std::alloc::AllocError;
@@ -48,28 +47,28 @@ pub(crate) fn read_front(
     let ends = word_ends(text, place);
     let mut at = 0;
     while at < WINDOW_LEN {
-        let len = word_len(ends, at);
-        if len > 0 {
-            if text[place + at + len] == b'\\' {
-                break;
+        match text[place + at] {
+            b' ' => at += 1,
+            b'\t' => at += 1,
+            b'\r' => at += 1,
+            b'\n' => {
+                return Ok(RowFront {
+                    place: place + at + 1,
+                    is_whole: true,
+                });
             }
-            tokens.push(TokenSpan {
-                start: place + at,
-                len,
-                quoted: false,
-                has_escape: false,
-            })?;
-            at += len;
-        } else {
-            match head_of(false, text[place + at]) {
-                Head::Go(false) => at += 1,
-                Head::Feed => {
-                    return Ok(RowFront {
-                        place: place + at + 1,
-                        is_whole: true,
-                    });
+            _ => {
+                let len = word_len(ends, at);
+                if len == 0 || text[place + at + len] == b'\\' {
+                    break;
                 }
-                _ => break,
+                tokens.push(TokenSpan {
+                    start: place + at,
+                    len,
+                    quoted: false,
+                    has_escape: false,
+                })?;
+                at += len;
             }
         }
     }

@@ -31,6 +31,7 @@ fn split_address(text: &[u8]) -> Option<(Ipv4Addr, &[u8])>
 }
 
 /// Splits the dot off that the text begins with.
+#[inline(always)]
 fn split_dot(text: &[u8]) -> Option<&[u8]>
     ensures { option_copied result ≡ read_byte 46 text.now }
 {
@@ -41,6 +42,7 @@ fn split_dot(text: &[u8]) -> Option<&[u8]>
 }
 
 /// Splits the digit off that the text begins with, and returns its value.
+#[inline(always)]
 fn split_digit(text: &[u8]) -> Option<(u8, &[u8])>
     ensures some { IfSome result (λ split. BeginsWithDigit text.now split.0 split.1.now) }
     ensures none { IfNone result ((n : ℕ) (rest : List ℕ) → BeginsWithDigit text.now n rest → ⊥) }
@@ -52,6 +54,7 @@ fn split_digit(text: &[u8]) -> Option<(u8, &[u8])>
 }
 
 /// Splits off the number that the digits at the beginning of the text write: at most 255, without a leading zero.
+#[inline(always)]
 fn split_number(text: &[u8]) -> Option<(u8, &[u8])>
     ensures { read_view (λ n. n) result ≡ read_octet text.now }
 {

@@ -7,33 +7,53 @@ overflow_mul-result c = omega (arith, c.others-second.ensures, mask_less c.args.
 
 pub overflow_add-result : goal.overflow_add-result
 overflow_add-result c =
-    omega
-    (arith, c.others-first.ensures, mask_less c.args.text.now c.args.place (omega arith), c.others-second.ensures,
-    mask_less c.args.text.now (c.args.place + 16) (omega arith))
+    omega (
+      arith,
+      c.others-first.ensures,
+      mask_less c.args.text.now c.args.place (omega arith),
+      c.others-second.ensures,
+      mask_less c.args.text.now (c.args.place + 16) (omega arith),
+    )
 
 pub overflow_mul-result-2 : goal.overflow_mul-result-2
 overflow_mul-result-2 c = omega (arith, c.others-third.ensures, mask_less c.args.text.now (c.args.place + 32) (omega arith))
 
 pub overflow_add-result-2 : goal.overflow_add-result-2
 overflow_add-result-2 c =
-    omega
-    (arith, c.others-first.ensures, mask_less c.args.text.now c.args.place (omega arith), c.others-second.ensures,
-    mask_less c.args.text.now (c.args.place + 16) (omega arith), c.others-third.ensures,
-    mask_less c.args.text.now (c.args.place + 32) (omega arith))
+    omega (
+      arith,
+      c.others-first.ensures,
+      mask_less c.args.text.now c.args.place (omega arith),
+      c.others-second.ensures,
+      mask_less c.args.text.now (c.args.place + 16) (omega arith),
+      c.others-third.ensures,
+      mask_less c.args.text.now (c.args.place + 32) (omega arith),
+    )
 
 pub overflow_mul-result-3 : goal.overflow_mul-result-3
 overflow_mul-result-3 c = omega (arith, c.others-fourth.ensures, mask_less c.args.text.now (c.args.place + 48) (omega arith))
 
 pub overflow_add-result-3 : goal.overflow_add-result-3
 overflow_add-result-3 c =
-    omega
-    (arith, c.others-first.ensures, mask_less c.args.text.now c.args.place (omega arith), c.others-second.ensures,
-    mask_less c.args.text.now (c.args.place + 16) (omega arith), c.others-third.ensures,
-    mask_less c.args.text.now (c.args.place + 32) (omega arith), c.others-fourth.ensures,
-    mask_less c.args.text.now (c.args.place + 48) (omega arith))
+    omega (
+      arith,
+      c.others-first.ensures,
+      mask_less c.args.text.now c.args.place (omega arith),
+      c.others-second.ensures,
+      mask_less c.args.text.now (c.args.place + 16) (omega arith),
+      c.others-third.ensures,
+      mask_less c.args.text.now (c.args.place + 32) (omega arith),
+      c.others-fourth.ensures,
+      mask_less c.args.text.now (c.args.place + 48) (omega arith),
+    )
 
 pub returns : goal.returns
 returns c =
-    omega
-    (arith, four_masks c.args.text.now c.args.place c.requires, c.others-first.ensures, c.others-second.ensures, c.others-third.ensures,
-    c.others-fourth.ensures)
+    omega (
+      arith,
+      four_masks c.args.text.now c.args.place c.requires,
+      c.others-first.ensures,
+      c.others-second.ensures,
+      c.others-third.ensures,
+      c.others-fourth.ensures,
+    )
