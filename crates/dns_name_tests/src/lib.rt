@@ -1,7 +1,7 @@
 //! Tests of `dns_name` and of the crates below it, `dns_octets`, `dns_values` and `dns_label`, by examples from
 //! outside, through their public calls.
 //!
-//! The rows of `dns_name_rows` test values. These tests are for what a row can't say: types of octets, borrows,
+//! The rows of `dns_text_rows` test values. These tests are for what a row can't say: types of octets, borrows,
 //! closures and targets of one's own. They are in a crate of their own, so that a check of the tests doesn't check
 //! those crates again.
 #![tactic(auto)]

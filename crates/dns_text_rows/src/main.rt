@@ -1,9 +1,10 @@
-//! Answers rows of the calls of `dns_text`: what each call returns for the values in `stdin`.
+//! Answers rows of the calls of `dns_text` and of `dns_name`: what each call returns for the values in `stdin`.
 #![tactic(auto)]
 
 mod char_strs;
 mod documents;
 mod encodings;
+mod name_calls;
 mod scans;
 mod uncertain;
 
@@ -11,7 +12,7 @@ use rows::{Answer, Calls, Row, RowError, answer_rows};
 use std::alloc::Global;
 use std::process::ExitCode;
 
-/// The calls of `dns_text`.
+/// The calls of `dns_text` and of `dns_name`.
 struct TextCalls;
 
 impl Calls for TextCalls {
@@ -23,7 +24,10 @@ impl Calls for TextCalls {
             "UncertainName" => uncertain::answer(alloc, row, out),
             "UncertainChain" => uncertain::answer_chain(alloc, row, out),
             "display_zonefile" => documents::answer(alloc, row, out),
-            _ => scans::answer(alloc, row, out),
+            _ => match row.method() {
+                "" | "scan" => scans::answer(alloc, row, out),
+                _ => name_calls::answer(alloc, row, out),
+            },
         }
     }
 }

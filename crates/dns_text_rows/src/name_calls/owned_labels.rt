@@ -1,5 +1,5 @@
 //! Labels that own their octets.
-use crate::labels::{are_hashed_alike, label};
+use crate::name_calls::labels::{are_hashed_alike, label};
 use dns_name::{LabelFromStrError, OwnedLabel};
 use rows::{Answer, Row, RowError};
 use std::alloc::Global;

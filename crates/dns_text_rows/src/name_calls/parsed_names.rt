@@ -1,7 +1,7 @@
 //! Names in messages, with pointers or without.
-use crate::any_name;
-use crate::labels::are_hashed_alike;
-use crate::read::{parsed, parser_at, write_unread};
+use crate::name_calls::any_name;
+use crate::name_calls::labels::are_hashed_alike;
+use crate::name_calls::read::{parsed, parser_at, write_unread};
 use dns_name::{ParsedName, ToLabelIter};
 use rows::{Answer, Row, RowError};
 use std::alloc::Global;

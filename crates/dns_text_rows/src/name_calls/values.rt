@@ -1,6 +1,6 @@
 //! Numbers that a message carries.
-use crate::octets::{composed, shown_and_composed};
-use crate::read::write_unread;
+use crate::name_calls::octets::{composed, shown_and_composed};
+use crate::name_calls::read::write_unread;
 use dns_name::{
     CanonicalOrd, Class, Compose, Opcode, OptRcode, OptionCode, ParseError, Parser, Rcode, Rtype,
     Serial,

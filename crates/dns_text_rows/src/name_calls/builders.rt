@@ -1,6 +1,6 @@
 //! Names that are built label by label.
-use crate::read::{flat, parsed, relative};
-use crate::text::symbols;
+use crate::name_calls::read::{flat, parsed, relative};
+use crate::name_calls::text::symbols;
 use arrayvec::ArrayVec;
 use dns_name::{EmptyBuilder, Name, NameBuilder, PushNameError, WriteOctets};
 use rows::{Answer, Row, RowError};

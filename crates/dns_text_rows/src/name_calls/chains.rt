@@ -1,6 +1,6 @@
 //! Chains of two names.
-use crate::read::{flat, relative};
-use crate::{any_name, relative_names};
+use crate::name_calls::read::{flat, relative};
+use crate::name_calls::{any_name, relative_names};
 use dns_name::{Chain, Name, RelativeName, ToLabelIter, ToRelativeName};
 use rows::{Answer, Row, RowError};
 use std::alloc::Global;

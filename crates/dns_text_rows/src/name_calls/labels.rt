@@ -1,5 +1,5 @@
 //! Labels.
-use crate::read::write_target;
+use crate::name_calls::read::write_target;
 use dns_name::{Label, LabelMut};
 use rows::{Answer, Row, RowError};
 use std::alloc::Global;

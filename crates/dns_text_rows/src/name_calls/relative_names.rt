@@ -1,5 +1,5 @@
 //! Relative names in flat octets.
-use crate::read::{relative, write_label, write_octets, write_target, write_vec};
+use crate::name_calls::read::{relative, write_label, write_octets, write_target, write_vec};
 use dns_name::{RelativeFromStrError, RelativeName, ToLabelIter, ToRelativeName};
 use rows::{Answer, Row, RowError};
 use std::alloc::Global;
@@ -133,7 +133,7 @@ fn compare_flat(
         "eq" => out.shown(&(*name == other)),
         "lt" => out.shown(&(*name < other)),
         "cmp" => out.named(&name.cmp(&other)),
-        _ => out.shown(&crate::labels::are_hashed_alike(name, &other)),
+        _ => out.shown(&crate::name_calls::labels::are_hashed_alike(name, &other)),
     }
 }
 

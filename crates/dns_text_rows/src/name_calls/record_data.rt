@@ -1,6 +1,6 @@
 //! Unknown data of records, and the lengths of record data.
-use crate::labels::are_hashed_alike;
-use crate::read::{parser_at, write_target, write_unread};
+use crate::name_calls::labels::are_hashed_alike;
+use crate::name_calls::read::{parser_at, write_target, write_unread};
 use dns_name::{
     ComposeRecordData, LongRecordData, ParseAnyRecordData, ParseRecordData, Parser, RecordData,
     Rtype, UnknownRecordData,
@@ -108,7 +108,7 @@ fn compare(
         "cmp" => out.named(&rdata.cmp(other)),
         "partial_cmp" => out.named(&rdata.partial_cmp(other)),
         "hash" => out.shown(&are_hashed_alike(rdata, other)),
-        method => crate::values::compare(method, rdata, other, out),
+        method => crate::name_calls::values::compare(method, rdata, other, out),
     }
 }
 

@@ -1,6 +1,6 @@
 //! Absolute names in flat octets.
-use crate::read::{flat, parser_at, write_unread, write_vec};
-use crate::{any_name, parts, read, text};
+use crate::name_calls::read::{flat, parser_at, write_unread, write_vec};
+use crate::name_calls::{any_name, parts, read, text};
 use arrayvec::ArrayVec;
 use dns_name::{Name, PushError};
 use rows::{Answer, Row, RowError};
@@ -155,7 +155,7 @@ fn answer_of(
         "eq" | "cmp" | "hash" => compare(name, row.octets(alloc)?.as_slice(), row, out),
         "canonical_lt" | "canonical_cmp" | "canonical_le" | "canonical_gt" | "canonical_ge" => {
             let other = row.octets(alloc)?;
-            crate::values::compare(row.method(), name, &flat(other.as_slice())?, out)
+            crate::name_calls::values::compare(row.method(), name, &flat(other.as_slice())?, out)
         }
         _ => any_name::answer(alloc, name, row, out),
     }
@@ -171,6 +171,6 @@ fn compare(
     match row.method() {
         "eq" => out.shown(&(*name == other)),
         "cmp" => out.named(&name.cmp(&other)),
-        _ => out.shown(&crate::labels::are_hashed_alike(name, &other)),
+        _ => out.shown(&crate::name_calls::labels::are_hashed_alike(name, &other)),
     }
 }

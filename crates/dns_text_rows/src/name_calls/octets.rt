@@ -1,5 +1,5 @@
 //! Numbers and addresses, parsed from octets and composed in network order.
-use crate::read::{write_target, write_unread};
+use crate::name_calls::read::{write_target, write_unread};
 use dns_name::{Compose, Parse, Parser};
 use rows::{Answer, Row, RowError};
 use std::alloc::Global;

@@ -1,5 +1,5 @@
 //! The methods of every absolute name, whatever its type.
-use crate::read::{flat, parsed, write_octets, write_target};
+use crate::name_calls::read::{flat, parsed, write_octets, write_target};
 use dns_name::ToName;
 use rows::{Answer, Row, RowError};
 use std::alloc::Global;

@@ -1,6 +1,6 @@
 //! Times to live.
-use crate::octets::composed;
-use crate::read::write_unread;
+use crate::name_calls::octets::composed;
+use crate::name_calls::read::write_unread;
 use dns_name::{Parser, Ttl};
 use rows::{Answer, Row, RowError};
 use std::alloc::Global;

@@ -1,7 +1,7 @@
 //! Names from text.
-use crate::names::octets_of;
-use crate::read::write_vec;
-use crate::symbols::symbol;
+use crate::name_calls::names::octets_of;
+use crate::name_calls::read::write_vec;
+use crate::name_calls::symbols::symbol;
 use dns_name::{Name, SpelledName, Symbol};
 use rows::{Answer, Row, RowError};
 use std::alloc::Global;
