@@ -1,8 +1,8 @@
 #!/usr/bin/env python3
 """Times how a zone's owners in order are appended to messages, with names in full and under each compressor.
 
-It runs the proved program of `crates/dns_builder_rows` (`python3 tools/build.py dns_builder_rows` makes it, at
-build/dns_builder_rows) on one row for each: so many owners `host-00000000.example.com.` and on, each appended to a vector
+It runs the proved program of `crates/dns_message_rows` (`python3 tools/build.py dns_message_rows` makes it, at
+build/dns_message_rows) on one row for each: so many owners `host-00000000.example.com.` and on, each appended to a vector
 that is emptied whenever it has more than 16,000 octets. For each it prints the processor time an owner, and how much of that
 a compressor takes more than names in full. Each is run five times, and the fastest counts."""
 import argparse
@@ -25,7 +25,7 @@ def nanoseconds(program, kind, owners, folder):
 
 def main():
     parser = argparse.ArgumentParser(description=__doc__, formatter_class=argparse.RawDescriptionHelpFormatter)
-    parser.add_argument("program", help="the proved program of dns_builder_rows")
+    parser.add_argument("program", help="the proved program of dns_message_rows")
     parser.add_argument("owners", nargs="?", type=int, default=OWNERS, help="how many owners")
     arguments = parser.parse_args()
     print(f"{arguments.owners:,} owners\n  {'':<10}{'ns/owner':>10}{'more':>10}{'octets':>14}")

@@ -1,7 +1,7 @@
 #!/usr/bin/env python3
 """compressor_rows.py: what lists of steps over a compressor come to, by the rules of the three spellings alone (RFC 1035 4.1.4).
 
-It prints the rows of `crates/dns_builder_rows/stdin` that begin with `Compressor::random` or `Compressor::append_owners`, and
+It prints the rows of `crates/dns_message_rows/stdin` that begin with `Compressor::random` or `Compressor::append_owners`, and
 behind each, after a tab, what it has to answer. What is remembered is a list of suffixes, each with the place where it stands
 and the place where its spelling stops; a name is spelled, and octets are truncated, in the plainest way. Nothing here follows
 the compressors' code."""

@@ -1,10 +1,11 @@
-//! Answers rows of the calls of `dns_message`: what each call returns for the values in `stdin`.
+//! Answers rows of the calls of `dns_message` and of its parts: what each call returns for the values in `stdin`.
 //!
 //! What is parsed is given by a place and the message, and the last word of the answer is the place after it. Other
 //! names are texts, and other records are written as in a zone file.
 #![tactic(auto)]
 
 mod answers;
+mod building;
 mod changed_messages;
 mod copied_messages;
 mod headers;
@@ -19,7 +20,7 @@ use rows::{Answer, Calls, Row, RowError, answer_rows};
 use std::alloc::Global;
 use std::process::ExitCode;
 
-/// The calls of `dns_message`.
+/// The calls of `dns_message` and of its parts.
 struct MessageCalls;
 
 impl Calls for MessageCalls {
@@ -38,7 +39,8 @@ impl Calls for MessageCalls {
             "QuestionSection" => questions::answer_section(alloc, row, out),
             "Record" => records::answer(alloc, row, out),
             "RecordHeader" => parsed::answer_header(alloc, row, out),
-            _ => parsed::answer(alloc, row, out),
+            "ParsedRecord" => parsed::answer(alloc, row, out),
+            _ => building::answer(alloc, row, out),
         }
     }
 }

@@ -1,8 +1,8 @@
 //! Messages that are built section by section (RFC 1035 4.1).
-use crate::opts::OptRow;
-use crate::records::{name_of, record_of, record_of_octets};
-use crate::stage::Stage;
-use crate::targets::write_octets;
+use crate::building::opts::OptRow;
+use crate::building::records::{name_of, record_of, record_of_octets};
+use crate::building::stage::Stage;
+use crate::building::targets::write_octets;
 use dns_builder::MessageBuilder;
 use dns_compress::{HashCompressor, StaticCompressor, StreamTarget, TreeCompressor};
 use dns_name::{Composer, Rtype};

@@ -1,6 +1,6 @@
 use Rattle.std.proofs.Common.{ap, ◌∙◌}
 use Rattle.dns_name.specs.Page.{Page}
-use Rattle.dns_builder_rows.proofs.stream.answered_by.Goals as goal
+use Rattle.dns_message_rows.proofs.building.stream.answered_by.Goals as goal
 
 pub returns : goal.returns
 returns g c =

@@ -1,5 +1,5 @@
 use Rattle.dns_builder.proofs.OptLeaves.{leaves-on}
-use Rattle.dns_builder_rows.proofs.opts.OptRow.apply.Goals as goal
+use Rattle.dns_message_rows.proofs.building.opts.OptRow.apply.Goals as goal
 
 pub returns-in-Told : goal.returns-in-Told
 returns-in-Told g c =

@@ -1,5 +1,5 @@
 //! A builder in whichever section the last step left it.
-use crate::opts::OptRow;
+use crate::building::opts::OptRow;
 use dns_builder::{
     AdditionalBuilder, AnswerBuilder, AuthorityBuilder, BuilderSection, MessageBuilder,
     QuestionBuilder, SectionBuilder,

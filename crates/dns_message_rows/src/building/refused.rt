@@ -1,6 +1,6 @@
 //! Records that a message has too little room for, with one more octet of room each time.
-use crate::opts::OptRow;
-use crate::records::record_of;
+use crate::building::opts::OptRow;
+use crate::building::records::record_of;
 use arrayvec::ArrayVec;
 use dns_builder::{AdditionalBuilder, AnswerBuilder, MessageBuilder};
 use dns_compress::{HashCompressor, StaticCompressor, TreeCompressor};

@@ -5,8 +5,8 @@ ghost use Rattle.dns_header.specs.Written.{parts_of};
 ghost use Rattle.dns_builder.specs.Built.{built_page, nothing_built};
 ghost use Rattle.dns_builder.specs.Steps.{going_to, with_item};
 
-use crate::records::{name_of, record_of};
-use crate::targets::write_octets;
+use crate::building::records::{name_of, record_of};
+use crate::building::targets::write_octets;
 use dns_builder::MessageBuilder;
 use dns_compress::{HashCompressor, StaticCompressor, StreamTarget, TreeCompressor};
 use dns_header::ComposeRecord;

@@ -1,5 +1,5 @@
 //! Targets that names and octets are appended to (RFC 1035 4.1.4, 4.2.2).
-use crate::records::name_of_text;
+use crate::building::records::name_of_text;
 use dns_compress::{HashCompressor, StaticCompressor, StreamTarget, TreeCompressor};
 use dns_name::Composer;
 use rows::{Answer, Row, RowError};
