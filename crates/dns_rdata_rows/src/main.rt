@@ -1,4 +1,4 @@
-//! Answers rows of the calls of `dns_rdata`: what each call returns for the values in `stdin`.
+//! Answers rows of the calls of `dns_rdata` and of `dns_rdata_more`: what each call returns for the values in `stdin`.
 //!
 //! Data is given by its type and its octets, a type by its mnemonic. A type after `\#` makes it unknown data. If `@`
 //! and a number follow a type, the octets are a message, and the data begins at that place in it.
@@ -6,6 +6,7 @@
 
 mod field_rows;
 mod fields;
+mod further_data;
 mod given;
 mod made;
 mod names;
@@ -17,7 +18,7 @@ use rows::{Answer, Calls, Row, RowError, answer_rows};
 use std::alloc::Global;
 use std::process::ExitCode;
 
-/// The calls of `dns_rdata`.
+/// The calls of `dns_rdata` and of `dns_rdata_more`.
 struct RdataCalls;
 
 impl Calls for RdataCalls {
@@ -61,11 +62,19 @@ fn answer_type(alloc: Global, row: &mut Row<'_>, out: &mut Answer) -> Result<(),
         "Srv" => names::answer_srv(alloc, row, out),
         "Strings" => field_rows::answer_strings(alloc, row, out),
         "Minfo" | "Rp" | "Soa" => names::answer_two(alloc, row, out),
-        _ => match row.method() {
-            "new" => names::answer_one(alloc, row, out),
-            "parse_rdata" => names::answer_taken(alloc, row, out),
-            _ => Err(RowError::UnknownCall),
-        },
+        "Cname" | "Dname" | "Mb" | "Md" | "Mf" | "Mg" | "Mr" | "Ns" | "Ptr" => {
+            answer_name(alloc, row, out)
+        }
+        _ => further_data::answer(alloc, row, out),
+    }
+}
+
+/// Answers a call that makes data of one name.
+fn answer_name(alloc: Global, row: &mut Row<'_>, out: &mut Answer) -> Result<(), RowError> {
+    match row.method() {
+        "new" => names::answer_one(alloc, row, out),
+        "parse_rdata" => names::answer_taken(alloc, row, out),
+        _ => Err(RowError::UnknownCall),
     }
 }
 

@@ -1,5 +1,5 @@
 //! Data of any type: parsed, composed, converted, printed and compared.
-use crate::text;
+use crate::further_data::text;
 use dns_name::{
     CanonicalOrd, ComposeRecordData, FlattenInto, OctetsFrom, ParseRecordData, Parser, RecordData,
 };

@@ -1,5 +1,5 @@
 //! The types: what each is made of, and the fields that its getters return.
-use crate::data::{self, octets_or};
+use crate::further_data::data::{self, octets_or};
 use dns_name::{Name, Rtype, Serial, Ttl};
 use dns_rdata_more::{
     Cdnskey, Cds, Cert, Csync, Eui48, Eui64, Https, Loc, Naptr, Nsec, Nsec3, Nsec3param,

@@ -1,6 +1,6 @@
 //! Data as text: scanned from a row of a zone file, and printed.
-use crate::data::{Owned, octets_or};
-use crate::types::name;
+use crate::further_data::data::{Owned, octets_or};
+use crate::further_data::types::name;
 use dns_entry_scanner::{EntryError, RowFound, RowScanner, ScannedName, read_row};
 use dns_name::Name;
 use dns_rdata_more::FurtherData;
