@@ -1,8 +1,8 @@
 #!/usr/bin/env python3
 """Times how the rows of zone files are read as entries, and how long texts are read that are no zone's.
 
-It runs the proved program of `crates/dns_zonefile_rows` (`python3 tools/build.py dns_zonefile_rows` makes it, at
-build/dns_zonefile_rows) on one row for each kind of text: the text is repeated so many times, and its entries are counted, or the
+It runs the proved program of `crates/zonewire_rows` (`python3 tools/build.py zonewire_rows` makes it, at
+build/zonewire_rows) on one row for each kind of text: the text is repeated so many times, and its entries are counted, or the
 octets of its records. For each it prints the processor time of one time. Each is run five times, and the fastest counts. Behind
 that it prints the time an octet of texts of one long row, of many rows, or of what is never closed, once as long and then twice: it
 has to stay the same."""
@@ -55,7 +55,7 @@ def report_long(program, folder):
 
 def main():
     parser = argparse.ArgumentParser(description=__doc__, formatter_class=argparse.RawDescriptionHelpFormatter)
-    parser.add_argument("program", help="the proved program of dns_zonefile_rows")
+    parser.add_argument("program", help="the proved program of zonewire_rows")
     parser.add_argument("times", nargs="?", type=int, default=TIMES, help="how many times each text")
     arguments = parser.parse_args()
     print(f"{arguments.times:,} times, ns\n  {'':<12}{'octets':>8}{'next_entry':>12}{'next_octets':>13}")

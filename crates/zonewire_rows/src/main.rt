@@ -1,4 +1,4 @@
-//! Answers rows of the calls of `zonewire`: what each call returns for the values in `stdin`.
+//! Answers rows of the calls of `zonewire` and of `dns_zonefile`: what each call returns for the values in `stdin`.
 //!
 //! A zone's text is one argument. A printed text is one word: `%20` is a space, `%0a` a line feed. A class that is not
 //! given is IN, and a limit 512 octets. An origin and a layout may be left out: then there is no origin, and the layout
@@ -14,13 +14,14 @@ mod receivers;
 mod rivals;
 mod steps;
 mod streams;
+mod zonefile;
 mod zones;
 
 use rows::{Answer, Calls, Row, RowError, answer_rows};
 use std::alloc::Global;
 use std::process::ExitCode;
 
-/// The calls of `zonewire`.
+/// The calls of `zonewire` and of `dns_zonefile`.
 struct ZonewireCalls;
 
 impl Calls for ZonewireCalls {
@@ -44,7 +45,7 @@ impl Calls for ZonewireCalls {
             "job" => programs::answer_job(alloc, row, out),
             "program" => programs::answer_program(alloc, row, out),
             "steps" => steps::answer(alloc, row, out),
-            _ => Err(RowError::UnknownCall),
+            _ => zonefile::answer(alloc, row, out),
         }
     }
 }
