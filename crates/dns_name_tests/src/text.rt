@@ -1,5 +1,6 @@
-//! Layouts, documents of several pieces, and names of several types.
+//! Tests of `dns_text`: layouts, documents of several pieces, names of several types, and scanners.
 mod rows;
+mod scan;
 mod uncertain;
 
 use dns_text::DisplayKind;

@@ -1,4 +1,9 @@
-//! Readers of zone files, with enough memory: each call that may allocate succeeds. And the texts of errors.
+//! Tests of `dns_zonefile` and of the crates below it: names under an origin, rows that are scanned, and here readers
+//! with enough memory, where each call that may allocate succeeds, and the texts of errors.
+mod names;
+mod octets;
+mod rows;
+
 use dns_entry_scanner::absolute;
 use dns_name::{Class, Name, ToName};
 use dns_zonefile::{Entry, Error, Zonefile};

@@ -1,6 +1,6 @@
 use Rattle.std.proofs.Common.{rules, [], ◌∷◌, codes}
 use Rattle.dns_text.specs.Document.Piece.{Token, Newline, Open, Close}
-use Rattle.dns_text_tests.proofs.text.rows.NestedZonefileFmt.fmt.Goals as goal
+use Rattle.dns_name_tests.proofs.text.rows.NestedZonefileFmt.fmt.Goals as goal
 
 pub returns : goal.returns
 returns g c =
