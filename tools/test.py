@@ -261,8 +261,13 @@ def jobs_of(crate):
 
 
 def size_below(crate, needs):
-    """How long the sources are that a try of the crate compiles: the long ones go first."""
+    """How long the sources are that a try of the crate compiles."""
     return sum(it.stat().st_size for name in {crate, *lower(crate, needs)} for it in (ROOT / "crates" / name).glob("src/**/*.rt"))
+
+
+def longest_first(jobs, needs):
+    """The jobs in the order that they begin in: programs of rows, which run longest, and then the rest; of both the long sources first."""
+    return sorted(jobs, key=lambda it: (it.kind != "rows", -size_below(it.crate, needs)))
 
 
 def processor_seconds():
@@ -307,8 +312,7 @@ def main():
     unknown = [it for it in asked.only or () if it not in needs]
     if unknown:
         parser.error(f"crates.txt names no crate {unknown[0]}")
-    jobs = [job for name in asked.only or needs for job in jobs_of(name)]
-    jobs.sort(key=lambda job: -size_below(job.crate, needs))
+    jobs = longest_first([job for name in asked.only or needs for job in jobs_of(name)], needs)
     at_once = max(asked.jobs, 1)
     outcomes, used = run_all(jobs, at_once)
     print(f"{time.monotonic() - start:.0f} seconds, {used:.0f} processor seconds, {at_once} at once")
