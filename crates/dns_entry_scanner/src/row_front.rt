@@ -59,7 +59,8 @@ pub(crate) fn read_front(
             }
             _ => {
                 let len = word_len(ends, at);
-                if len == 0 || text[place + at + len] == b'\\' {
+                let behind = text[place + at + len];
+                if len == 0 || behind == b'\\' {
                     break;
                 }
                 tokens.push(TokenSpan {
@@ -69,6 +70,10 @@ pub(crate) fn read_front(
                     has_escape: false,
                 })?;
                 at += len;
+                // Most words have one space behind them.
+                if behind == b' ' {
+                    at += 1;
+                }
             }
         }
     }

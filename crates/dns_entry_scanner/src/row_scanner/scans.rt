@@ -51,6 +51,7 @@ impl<'t, N: TextName> Scanner for RowScanner<'t, N> {
         }
     }
 
+    #[inline(always)]
     fn scan_ascii_str<F, T>(&mut self, op: F) -> Result<T, EntryError>
     where
         F: FnOnce(&str) -> Option<T>,
