@@ -6,7 +6,9 @@ use Rattle.std.proofs.lemmas.List.{nil_from_length}
 use Rattle.dns_scan.specs.Encodings.{Decodes16, Decodes64}
 use Rattle.dns_scan.specs.declared.encoding.base.Base.TheVariants.{Sixteen, SixtyFour}
 use Rattle.dns_scan.specs.Token.{Token, IsEntry, IsWord, Takes}
-use Rattle.dns_fields.specs.Fields.{Field, field_octets, string, uncompressed, rest16, rest64}
+use Rattle.dns_entry_scanner.specs.AppendedName.{AppendsName, SpellsNoName}
+use Rattle.dns_entry_scanner.specs.AppendedString.{AppendsString, AppendsText}
+use Rattle.dns_fields.specs.Fields.{Field, field_octets, string, uncompressed, rest_text, rest16, rest64}
 use Rattle.dns_fields.proofs.FieldKinds.{of_number8, of_number16, of_number32, of_uncompressed, of_string, of_rest16, of_rest64}
 use Rattle.dns_fields.proofs.ScannedOnce.{decoded_one}
 use Rattle.dns_field_texts.specs.Appended.{Appends, AppendsCounted}
@@ -22,9 +24,9 @@ use Rattle.dns_service_parameters.specs.ServiceText.{AppendsParameters, ScansPar
 use Rattle.dns_field_texts.proofs.LocationRead.{scans_location_is}
 use Rattle.dns_field_texts.specs.Location.{Location, location_octets}
 use Rattle.dns_field_texts.specs.LocationText.{AppendsLocation, ScansLocation}
-use Rattle.dns_fields_more.specs.Text.{AppendsForm, AppendsName, NoFormScans, NoNameScans, ScansForm}
+use Rattle.dns_fields_more.specs.Text.{AppendsForm, NoFormScans, ScansForm}
 use Rattle.dns_fields_more.specs.declared.form.Form.{Form}
-use Rattle.dns_fields_more.specs.declared.form.Form.TheVariants.{Name, CasedName, Rest16, Rest64, Rtype as RtypeForm, Algorithm, CertificateType, Time, Salt, Hash, Types, Parameters, Location as LocationForm, Eui48, Eui64}
+use Rattle.dns_fields_more.specs.declared.form.Form.TheVariants.{Name, CasedName, String, RestText, Rest16, Rest64, Rtype as RtypeForm, Algorithm, CertificateType, Time, Salt, Hash, Types, Parameters, Location as LocationForm, Eui48, Eui64}
 
 pub scanned : {T E : Type 0} {names : List ℕ → List (List ℕ) → Type 0} {form : Form} {tokens left : List Token} (old new more : List ℕ) (field : Field)
     → ScansForm names form field tokens left → more ≡ field_octets field → (result : Result T E) → OnOk result (new ≡ old ++ more)
@@ -46,18 +48,6 @@ pub if_empty : {T E P : Type 0} {more : List ℕ} (is_short : E → Bool) → (m
     → IfErr result (λ error. is_short error ≡ false → more ≡ []) → IfErr result (λ error. is_short error ≡ false → P)
 if_empty is_short so (Ok value) none = tt
 if_empty is_short so (Err error) none = λ long. so (none long)
-
--- the same, if the octets are appended in two parts
-pub scanned_parts : {T E : Type 0} {names : List ℕ → List (List ℕ) → Type 0} {form : Form} {tokens left : List Token}
-    (old middle new first more : List ℕ) (field : Field) → ScansForm names form field tokens left → first ++ more ≡ field_octets field
-    → middle ≡ old ++ first → (result : Result T E) → OnOk result (new ≡ middle ++ more) → OnOk result (AppendsForm names form tokens left old new)
-scanned_parts old middle new first more field scans same front (Ok value) behind =
-    record {
-      field = field;
-      scans = scans;
-      behind = behind ∙ ap (λ l. l ++ more) front ∙ append_assoc old first more ∙ ap (λ l. old ++ l) same;
-    }
-scanned_parts old middle new first more field scans same front (Err error) behind = tt
 
 module _ {names : List ℕ → List (List ℕ) → Type 0} {tokens : List Token} where
   pub no_rest16 : ((text octets : List ℕ) → IsEntry IsWord tokens text → Decodes16 (chars text) octets → ⊥) → NoFormScans names Rest16 tokens
@@ -185,14 +175,28 @@ module _ {names : List ℕ → List (List ℕ) → Type 0} {tokens left : List T
   pub lowered_scanned : AppendsName names tokens left old new → AppendsForm names Name tokens left old new
   lowered_scanned appends = record {
     field = uncompressed appends.name;
-    scans = record { is = record { kind = refl; is_field = appends.is; keeps = tt }; spelled = appends.takes };
+    scans = record { is = record { kind = refl; is_field = appends.is_name; keeps = tt }; spelled = (appends.text, appends.is, appends.spells) };
     behind = appends.behind;
   }
 
   pub cased_scanned : AppendsName names tokens left old new → AppendsForm names CasedName tokens left old new
   cased_scanned appends = record {
     field = uncompressed appends.name;
-    scans = record { is = record { kind = refl; is_field = appends.is; keeps = tt }; spelled = appends.takes };
+    scans = record { is = record { kind = refl; is_field = appends.is_name; keeps = tt }; spelled = (appends.text, appends.is, appends.spells) };
+    behind = appends.behind;
+  }
+
+  pub string_scanned : AppendsString tokens left old new → AppendsForm names String tokens left old new
+  string_scanned appends = record {
+    field = string appends.string;
+    scans = record { is = record { kind = refl; is_field = appends.takes.fits.short; keeps = tt }; spelled = appends.takes };
+    behind = appends.behind;
+  }
+
+  pub text_scanned : AppendsText tokens left old new → AppendsForm names RestText tokens left old new
+  text_scanned appends = record {
+    field = rest_text appends.octets;
+    scans = record { is = record { kind = refl; is_field = tt; keeps = tt }; spelled = appends.takes };
     behind = appends.behind;
   }
 
@@ -232,13 +236,13 @@ module _ {names : List ℕ → List (List ℕ) → Type 0} {tokens left : List T
   }
 
 module _ {names : List ℕ → List (List ℕ) → Type 0} {tokens : List Token} where
-  pub no_lowered : NoNameScans names tokens → NoFormScans names Name tokens
+  pub no_lowered : SpellsNoName names tokens → NoFormScans names Name tokens
   no_lowered none field left scans =
-      of_uncompressed (λ f. ScansForm names Name f tokens left → ⊥) field (λ name s. none name left s.spelled) scans.is.kind scans
+      of_uncompressed (λ f. ScansForm names Name f tokens left → ⊥) field (λ name s. none s.spelled.0 left name s.spelled.1 s.spelled.2) scans.is.kind scans
 
-  pub no_cased : NoNameScans names tokens → NoFormScans names CasedName tokens
+  pub no_cased : SpellsNoName names tokens → NoFormScans names CasedName tokens
   no_cased none field left scans =
-      of_uncompressed (λ f. ScansForm names CasedName f tokens left → ⊥) field (λ name s. none name left s.spelled) scans.is.kind scans
+      of_uncompressed (λ f. ScansForm names CasedName f tokens left → ⊥) field (λ name s. none s.spelled.0 left name s.spelled.1 s.spelled.2) scans.is.kind scans
 
   pub no_types : SpellsNoTypes tokens → NoFormScans names Types tokens
   no_types none field left scans =

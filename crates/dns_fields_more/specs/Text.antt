@@ -1,10 +1,9 @@
 -- Fields of forms as text: the tokens of a row (RFC 1035 5.1).
 use Rattle.std.specs.Prelude.{◌≡◌, ◌≢◌, ◌<◌, ◌≤◌, ◌++◌, ℕ, List, [], ◌∷◌, length, map, Some}
-use Rattle.dns_label.specs.Name.{IsName, wire}
 use Rattle.dns_scan.specs.Scans.{ScansWord}
 use Rattle.dns_scan.specs.Token.{Token, Takes, IsWord}
 use Rattle.dns_fields.specs.Fields.{Field, field_octets, octets, number8, number16, number32, string, rest16, rest64}
-use Rattle.dns_fields.specs.Scanned.{ScansField, TakesName}
+use Rattle.dns_fields.specs.Scanned.{ScansField}
 use Rattle.dns_text.specs.Document.{Piece}
 use Rattle.dns_text.specs.Document.Piece.{Token as printed}
 use Rattle.dns_text.specs.Documents.{block_of}
@@ -76,16 +75,6 @@ pub record AppendsForms (names : List ℕ → List (List ℕ) → Type 0) (forms
   pub row : List Field
   pub scans : ScansForms names forms row tokens left
   pub behind : new ≡ old ++ octets row
-
--- A name is scanned, and its octets follow the old ones.
-pub record AppendsName (names : List ℕ → List (List ℕ) → Type 0) (tokens left : List Token) (old new : List ℕ) : Type 0 where
-  pub name : List (List ℕ)
-  pub takes : TakesName names name tokens left
-  pub is : IsName name
-  pub behind : new ≡ old ++ wire name
-
-abbrev pub NoNameScans : (List ℕ → List (List ℕ) → Type 0) → List Token → Type 0
-NoNameScans names tokens = (name : List (List ℕ)) (left : List Token) → TakesName names name tokens left → ⊥
 
 -- The field is printed as these pieces. A field of any other form is printed as one of its kind.
 abbrev pub PrintsForm : Form → Field → List Piece → Type 0

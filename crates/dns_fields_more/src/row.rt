@@ -32,8 +32,6 @@ pub fn scan_further_into<S: EntryScanner>(
     scanner: &mut S,
     octets: &mut Vec<u8>,
 ) -> Result<(), S::Error>
-where
-    S::Name: Drop,
     ensures ok { OnOk result (AppendsFurther (S.names scanner.old) rtype (S.tokens scanner.old) (S.tokens scanner.new)
         octets.old.items octets.new.items) }
     ensures err { IfErr result (λ error. S.Error.is_short error ≡ false

@@ -2,7 +2,7 @@
 ghost use Rattle.std.specs.Prelude.{◌≡◌, ◌≢◌, ◌++◌, false, true, List, [], ℕ, IfErr, IfOk, IfSome, IsSome, OnOk};
 ghost use Rattle.dns_scan.specs.Token.{IsWord, SameNames, Takes, Token};
 ghost use Rattle.dns_field_texts.specs.Appended.{GoesOn};
-ghost use Rattle.dns_fields_more.specs.Text.{AppendsForm, AppendsForms, AppendsName, NoFormScans, NoFormsScan, NoNameScans};
+ghost use Rattle.dns_fields_more.specs.Text.{AppendsForm, AppendsForms, NoFormScans, NoFormsScan};
 ghost use Rattle.dns_field_texts.specs.NumberedWords.{algorithm_read, certificate_type_read};
 ghost use Rattle.dns_field_texts.specs.Time.{time_read};
 ghost use Rattle.dns_field_texts.specs.TypeWords.{type_word_read};
@@ -29,8 +29,6 @@ pub(crate) fn scan_forms<S: EntryScanner>(
     scanner: &mut S,
     octets: &mut Vec<u8>,
 ) -> Result<(), S::Error>
-where
-    S::Name: Drop,
     ensures ok { OnOk result (AppendsForms (S.names scanner.old) forms.now (S.tokens scanner.old) (S.tokens scanner.new)
         octets.old.items octets.new.items) }
     ensures err { IfErr result (λ error. S.Error.is_short error ≡ false
@@ -53,8 +51,6 @@ fn scan_form<S: EntryScanner>(
     scanner: &mut S,
     octets: &mut Vec<u8>,
 ) -> Result<(), S::Error>
-where
-    S::Name: Drop,
     ensures ok { OnOk result (AppendsForm (S.names scanner.old) form (S.tokens scanner.old) (S.tokens scanner.new)
         octets.old.items octets.new.items) }
     ensures err { IfErr result (λ error. S.Error.is_short error ≡ false → NoFormScans (S.names scanner.old) form (S.tokens scanner.old)) }
@@ -139,15 +135,8 @@ fn scan_string<S: EntryScanner>(scanner: &mut S, octets: &mut Vec<u8>) -> Result
     ensures names { SameNames (S.names scanner.old) (S.names scanner.new) }
     ensures more { GoesOn octets.old.items octets.new.items }
 {
-    match scanner.scan_charstr() {
-        Ok(string) => {
-            let text = string.as_slice();
-            // A string has at most 255 octets.
-            match append::<S>(octets, &[text.len() as u8]) {
-                Ok(()) => append::<S>(octets, text),
-                Err(error) => Err(error),
-            }
-        },
+    match scanner.scan_charstr_into(octets) {
+        Ok(()) => Ok(()),
         Err(error) => Err(error),
     }
 }
@@ -161,8 +150,8 @@ fn scan_text<S: EntryScanner>(scanner: &mut S, octets: &mut Vec<u8>) -> Result<(
     ensures names { SameNames (S.names scanner.old) (S.names scanner.new) }
     ensures more { GoesOn octets.old.items octets.new.items }
 {
-    match scanner.scan_octets() {
-        Ok(text) => append::<S>(octets, text.octets()),
+    match scanner.scan_octets_into(octets) {
+        Ok(()) => Ok(()),
         Err(error) => Err(error),
     }
 }
@@ -204,8 +193,6 @@ fn scan_base64<S: EntryScanner>(scanner: &mut S, octets: &mut Vec<u8>) -> Result
 
 /// Scans a name that is in lower case in canonical form.
 fn scan_lowered_name<S: EntryScanner>(scanner: &mut S, octets: &mut Vec<u8>) -> Result<(), S::Error>
-where
-    S::Name: Drop,
     ensures ok { OnOk result (AppendsForm (S.names scanner.old) form_of.Name (S.tokens scanner.old) (S.tokens scanner.new)
         octets.old.items octets.new.items) }
     ensures err { IfErr result (λ error. S.Error.is_short error ≡ false
@@ -213,7 +200,7 @@ where
     ensures names { SameNames (S.names scanner.old) (S.names scanner.new) }
     ensures more { GoesOn octets.old.items octets.new.items }
 {
-    match scan_name(scanner, octets) {
+    match scanner.scan_name_into(octets) {
         Ok(()) => Ok(()),
         Err(error) => Err(error),
     }
@@ -221,8 +208,6 @@ where
 
 /// Scans a name that keeps its case.
 fn scan_cased_name<S: EntryScanner>(scanner: &mut S, octets: &mut Vec<u8>) -> Result<(), S::Error>
-where
-    S::Name: Drop,
     ensures ok { OnOk result (AppendsForm (S.names scanner.old) form_of.CasedName (S.tokens scanner.old) (S.tokens scanner.new)
         octets.old.items octets.new.items) }
     ensures err { IfErr result (λ error. S.Error.is_short error ≡ false
@@ -230,7 +215,7 @@ where
     ensures names { SameNames (S.names scanner.old) (S.names scanner.new) }
     ensures more { GoesOn octets.old.items octets.new.items }
 {
-    match scan_name(scanner, octets) {
+    match scanner.scan_name_into(octets) {
         Ok(()) => Ok(()),
         Err(error) => Err(error),
     }
@@ -278,30 +263,6 @@ fn scan_location<S: EntryScanner>(scanner: &mut S, octets: &mut Vec<u8>) -> Resu
     match scan_location_into(scanner, octets) {
         Ok(()) => Ok(()),
         Err(error) => Err(error),
-    }
-}
-
-/// Scans a name, and appends it in full.
-fn scan_name<S: EntryScanner>(scanner: &mut S, octets: &mut Vec<u8>) -> Result<(), S::Error>
-where
-    S::Name: Drop,
-    ensures ok { OnOk result (AppendsName (S.names scanner.old) (S.tokens scanner.old) (S.tokens scanner.new)
-        octets.old.items octets.new.items) }
-    ensures err { IfErr result (λ error. S.Error.is_short error ≡ false → NoNameScans (S.names scanner.old) (S.tokens scanner.old)) }
-    ensures names { SameNames (S.names scanner.old) (S.names scanner.new) }
-    ensures more { GoesOn octets.old.items octets.new.items }
-{
-    let name = match scanner.scan_name() {
-        Ok(name) => name,
-        Err(error) => return Err(error),
-    };
-    // Most names are flat already. The call also shows the proof that it is a name.
-    if let Some(flat) = name.as_flat_slice() {
-        return append::<S>(octets, flat);
-    }
-    match name.compose(octets) {
-        Ok(()) => Ok(()),
-        Err(_) => Err(S::Error::short_buf()),
     }
 }
 
