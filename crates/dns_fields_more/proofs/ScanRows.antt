@@ -7,7 +7,7 @@ use Rattle.dns_fields.specs.Scanned.{ScansField}
 use Rattle.dns_fields.proofs.FieldKinds.{of_number8, of_number16, of_number32, of_uncompressed, of_string, of_rest_text, of_rest16, of_rest64}
 use Rattle.dns_fields.proofs.ScanParts as parts
 use Rattle.dns_fields_more.specs.Forms.{kind_of_form}
-use Rattle.dns_fields_more.specs.Text.{AppendsForm, AppendsForms, AppendsFurther, NoFormScans, NoFormsScan, NoFurtherScans, ScansForm, ScansForms, ScansFurther, SpellsForm}
+use Rattle.dns_fields_more.specs.Text.{AppendsForm, AppendsForms, NoFormScans, NoFormsScan, ScansForm, ScansForms, ScansFurther, SpellsForm}
 use Rattle.dns_fields_more.specs.declared.form.Form.{Form}
 use Rattle.dns_fields_more.specs.declared.form.Form.TheVariants.{Number8, Number16, Number32, Name, CasedName, String, RestText, Rest16, Rest64, Rtype as RtypeForm, Algorithm, CertificateType, Time, Salt, Hash, Types, Parameters, Location, Eui48, Eui64}
 
@@ -99,32 +99,14 @@ forms_there same (form ∷ forms) [] tokens left scans = scans
 forms_there same (form ∷ forms) (field ∷ row) tokens left scans =
     (scans.0, form_there same scans.1, forms_there same forms row scans.0 left scans.2)
 
-swap : {old new : List ℕ → List (List ℕ) → Type 0} → SameNames old new → SameNames new old
+pub swap : {old new : List ℕ → List (List ℕ) → Type 0} → SameNames old new → SameNames new old
 swap same text name = ((same text name).1, (same text name).0)
 
 -- a row under other names for the same texts
-further_there : {old new : List ℕ → List (List ℕ) → Type 0} → SameNames old new → {rtype : ℕ} {row : List Field} {tokens left : List Token}
+pub further_there : {old new : List ℕ → List (List ℕ) → Type 0} → SameNames old new → {rtype : ℕ} {row : List Field} {tokens left : List Token}
     → ScansFurther new rtype row tokens left → ScansFurther old rtype row tokens left
 further_there same {row = row} {tokens} {left} scans =
     record { forms = scans.forms; its = scans.its; scans = forms_there same scans.forms row tokens left scans.scans; short = scans.short }
-
-pub further_appended : {old_names new_names : List ℕ → List (List ℕ) → Type 0} → SameNames old_names new_names → {rtype : ℕ} {tokens left : List Token}
-    {old new : List ℕ} → AppendsFurther new_names rtype tokens left old new → AppendsFurther old_names rtype tokens left old new
-further_appended same appends = record { row = appends.row; scans = further_there same appends.scans; behind = appends.behind }
-
-pub no_further : {old new : List ℕ → List (List ℕ) → Type 0} → SameNames old new → {rtype : ℕ} {tokens : List Token}
-    → NoFurtherScans new rtype tokens → NoFurtherScans old rtype tokens
-no_further same {tokens = tokens} none fits row left scans =
-    none
-    (λ long. fits (record {
-      forms = long.forms;
-      row = long.row;
-      left = long.left;
-      its = long.its;
-      scans = forms_there same long.forms long.row tokens long.left long.scans;
-      long = long.long;
-    }))
-    row left (further_there (swap same) scans)
 
 -- a field, and the others after it
 pub forms_appended : {old_names new_names : List ℕ → List (List ℕ) → Type 0} {form : Form} {forms all : List Form} {tokens behind left : List Token}

@@ -2,7 +2,7 @@
 use Rattle.std.proofs.Common.{◌≡◌, ◌≢◌, ◌-◌, ◌≤◌, ◌∷◌, ◌++◌, ◌∙◌, ◌↔◌, ℕ, zero, suc, Bool, List, [], drop, take, length, map, ap, sym, subst, refl, IsTrue, Ok, Err}
 use Rattle.std.specs.Prelude.{Option, Result, OnOk, IfErr}
 use Rattle.std.proofs.lemmas.List.{drop-map, take_rest}
-use Rattle.dns_scan.specs.Token.{Token, marker}
+use Rattle.dns_scan.specs.Token.{SameNames, Token, marker}
 use Rattle.dns_scan.specs.UnknownData.{IsUnknownData}
 use Rattle.dns_entry_scanner.specs.NameInText.{SpellsUnder}
 use Rattle.dns_entry_scanner.specs.TokenSpan.{token_in}
@@ -10,10 +10,12 @@ use Rattle.dns_entry_scanner.specs.declared.token_span.TokenSpan.{TokenSpan}
 use Rattle.dns_fields.specs.Fields.{Field}
 use Rattle.dns_fields.specs.Fields.{octets as octets_of}
 use Rattle.dns_fields_more.specs.Text.{AppendsFurther, NoFurtherScans, ScansFurther}
+use Rattle.dns_fields_more.proofs.ScanRows.{further_there, swap}
 use Rattle.dns_zonefile.proofs.OneEntry.{under_once}
 use Rattle.dns_zonefile.specs.Statement.{Names}
 use Rattle.zone_general.specs.LongerRow.{IsMarked, ScansLonger}
 use Rattle.zone_general.specs.LongerRow.ScansLonger.{marked, fields}
+use Rattle.zone_general.specs.RowFields.{HasFields, HasNoFields}
 use Rattle.zone_general.proofs.ScannedOnce.{not_long, one_left}
 
 -- the token of the first span, before those of the others
@@ -85,43 +87,46 @@ module _ {names : Names} {rtype : ℕ} where
 
   -- fields
   pub fields_scanned : {tokens : List Token} (old new : List ℕ) → (IsMarked tokens → ⊥)
-      → (row : List Field) × ScansFurther names rtype row tokens [] × (new ≡ old ++ octets_of row)
-      → HasContent (ScansLonger names rtype tokens) old new
+      → HasFields names rtype tokens old new → HasContent (ScansLonger names rtype tokens) old new
   fields_scanned old new unmarked has = (octets_of has.0, fields unmarked has.1, has.1.short, has.2)
 
-  pub no_fields : {tokens : List Token} → (IsMarked tokens → ⊥) → ((row : List Field) → ScansFurther names rtype row tokens [] → ⊥)
-      → (content : List ℕ) → ScansLonger names rtype tokens content → ⊥
+  pub no_fields : {tokens : List Token} → (IsMarked tokens → ⊥) → HasNoFields names rtype tokens → (content : List ℕ) → ScansLonger names rtype tokens content → ⊥
   no_fields unmarked none' content (marked {words = words} data') = unmarked (record { words = words; is = refl })
   no_fields unmarked none' content (fields {row = row} still scans) = none' row scans
 
--- what a scanner says of the tokens and names that it was made with
-module _ {number rtype : ℕ} {known origin : Option (List (List ℕ))} {given tokens : List Token} (number_is : number ≡ rtype) (names_are : known ≡ origin)
-    (tokens_are : given ≡ tokens) where
+-- what was scanned, of a type with this number
+module _ {number rtype : ℕ} {origin : Option (List (List ℕ))} {tokens : List Token} (number_is : number ≡ rtype) where
   here : {row : List Field} {left : List Token} → ScansFurther (SpellsUnder origin) rtype row tokens left
-      → ScansFurther (SpellsUnder known) number row given left
-  here {row} {left} scans =
-      subst (λ (n : ℕ). ScansFurther (SpellsUnder known) n row given left) (sym number_is)
-      (subst (λ (o : Option (List (List ℕ))). ScansFurther (SpellsUnder o) rtype row given left) (sym names_are)
-      (subst (λ (l : List Token). ScansFurther (SpellsUnder origin) rtype row l left) (sym tokens_are) scans))
+      → ScansFurther (SpellsUnder origin) number row tokens left
+  here {row} {left} scans = subst (λ (n : ℕ). ScansFurther (SpellsUnder origin) n row tokens left) (sym number_is) scans
 
-  there : {row : List Field} {left : List Token} → ScansFurther (SpellsUnder known) number row given left
-      → ScansFurther (SpellsUnder origin) rtype row tokens left
-  there {row} {left} scans =
-      subst (λ (n : ℕ). ScansFurther (SpellsUnder origin) n row tokens left) number_is
-      (subst (λ (o : Option (List (List ℕ))). ScansFurther (SpellsUnder o) number row tokens left) names_are
-      (subst (λ (l : List Token). ScansFurther (SpellsUnder known) number row l left) tokens_are scans))
+  pub none_scanned : NoFurtherScans (SpellsUnder origin) number tokens → HasNoFields (SpellsUnder origin) rtype tokens
+  none_scanned none' row scans = none' (not_long (under_once origin) (here scans)) row [] (here scans)
 
-  pub none_scanned : NoFurtherScans (SpellsUnder known) number given → (row : List Field) → ScansFurther (SpellsUnder origin) rtype row tokens [] → ⊥
-  none_scanned none' row scans = none' (not_long (under_once known) (here scans)) row [] (here scans)
+  pub none_left : {left : List Token} {old new : List ℕ} → AppendsFurther (SpellsUnder origin) number tokens left old new → left ≢ []
+      → HasNoFields (SpellsUnder origin) rtype tokens
+  none_left appends some row scans = some (one_left (under_once origin) appends.scans (here scans))
 
-  pub none_left : {left : List Token} {old new : List ℕ} → AppendsFurther (SpellsUnder known) number given left old new → left ≢ []
-      → (row : List Field) → ScansFurther (SpellsUnder origin) rtype row tokens [] → ⊥
-  none_left appends some row scans = some (one_left (under_once known) appends.scans (here scans))
-
-  pub all_scanned : {left : List Token} {old new : List ℕ} → AppendsFurther (SpellsUnder known) number given left old new → left ≡ []
-      → (row : List Field) × ScansFurther (SpellsUnder origin) rtype row tokens [] × (new ≡ old ++ octets_of row)
+  pub all_scanned : {left : List Token} {old new : List ℕ} → AppendsFurther (SpellsUnder origin) number tokens left old new → left ≡ []
+      → HasFields (SpellsUnder origin) rtype tokens old new
   all_scanned appends ends = (
     appends.row,
-    there (subst (λ (l : List Token). ScansFurther (SpellsUnder known) number appends.row given l) ends appends.scans),
+    subst (λ (n : ℕ). ScansFurther (SpellsUnder origin) n appends.row tokens []) number_is
+    (subst (λ (l : List Token). ScansFurther (SpellsUnder origin) number appends.row tokens l) ends appends.scans),
     appends.behind,
   )
+
+-- a scanner's names are those under its origin
+pub same_under : {known origin : Option (List (List ℕ))} → known ≡ origin → SameNames (SpellsUnder origin) (SpellsUnder known)
+same_under {known} is =
+    subst (λ (o : Option (List (List ℕ))). SameNames (SpellsUnder o) (SpellsUnder known)) is (λ text name. ((λ spells. spells), (λ spells. spells)))
+
+-- fields of a scanner's tokens, by other names for the same texts
+module _ {names others : Names} {rtype : ℕ} {given tokens : List Token} (same : SameNames names others) (tokens_are : given ≡ tokens) where
+  pub fields_there : {old new : List ℕ} → HasFields others rtype given old new → HasFields names rtype tokens old new
+  fields_there has =
+      (has.0, subst (λ (l : List Token). ScansFurther names rtype has.0 l []) tokens_are (further_there same has.1), has.2)
+
+  pub no_fields_there : HasNoFields others rtype given → HasNoFields names rtype tokens
+  no_fields_there none' row scans =
+      none' row (further_there (swap same) (subst (λ (l : List Token). ScansFurther names rtype row l []) (sym tokens_are) scans))

@@ -4,5 +4,6 @@ pub mod LongerEntries
 pub mod Rewritten
 pub mod Readable
 pub mod StandIn
+pub mod RowFields
 pub mod Seen
 pub mod WrittenPart

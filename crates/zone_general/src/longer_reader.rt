@@ -14,7 +14,7 @@ ghost use Rattle.zone_general.specs.Seen.{HasTypeAt, IsFound, WritesGeneral, Wri
 use crate::found_row::FoundRow;
 use crate::general_form::append_general_form;
 use crate::rewriting::append_rewritten;
-use crate::row_data::{is_marked, scan_data};
+use crate::row_data::{is_marked, scan_found_data};
 use crate::stand_in::append_stand_in;
 use crate::stated_type::{RowType, row_type};
 use dns_fields_more::forms_of;
@@ -153,7 +153,7 @@ impl LongerReader {
         self.word.clear();
         append_word(row, kind, &mut self.word)?;
         self.data.clear();
-        scan_data(self.alloc, row, kind, self.entries.origin(), &mut self.data)?;
+        scan_found_data(self.alloc, row, kind, self.entries.origin(), &mut self.data)?;
         self.form.clear();
         append_general_form(&self.data, &mut self.form)?;
         self.general.clear();

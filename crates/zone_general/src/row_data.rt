@@ -3,12 +3,12 @@ ghost use Rattle.std.specs.Prelude.{◌≡◌, ◌↔◌, ◌++◌, ◌+◌, ◌
 ghost use Rattle.dns_entry_scanner.specs.EntryError.{is_memory};
 ghost use Rattle.dns_entry_scanner.specs.NameInText.{SpellsUnder};
 ghost use Rattle.dns_entry_scanner.specs.TokenSpan.{token_in};
-ghost use Rattle.dns_scan.specs.Token.{marker};
+ghost use Rattle.dns_entry_scanner.specs.RowScanner.{names_of, tokens_of};
+ghost use Rattle.dns_scan.specs.Token.{SameNames, marker};
 ghost use Rattle.dns_scan.specs.UnknownData.{IsUnknownData};
-ghost use Rattle.dns_fields.specs.Fields.{Field, octets as octets_of};
-ghost use Rattle.dns_fields_more.specs.Text.{ScansFurther};
 ghost use Rattle.zone_general.specs.LongerRow.{IsMarked, ScansLonger};
-ghost use Rattle.zone_general.specs.Seen.{tokens_in};
+ghost use Rattle.zone_general.specs.RowFields.{HasFields, HasNoFields};
+ghost use Rattle.zone_general.specs.Seen.{IsFound, tokens_in};
 
 use crate::found_row::FoundRow;
 use crate::stated_type::RowType;
@@ -56,7 +56,43 @@ pub fn scan_data<'a>(
     if is_marked(row, kind.index) {
         return scan_general(alloc, row, kind.index, octets);
     }
-    scan_fields(alloc, row, kind, origin, octets)
+    let spans = &row.spans[kind.index + 1..];
+    let scanner = RowScanner::new(alloc, row.text, row.place, spans, origin);
+    scan_fields(scanner, kind.rtype, octets)
+}
+
+/// The same for a row that was found in its text: its tokens are not searched for backslashes again.
+pub(crate) fn scan_found_data<'a>(
+    alloc: Global,
+    row: FoundRow<'a>,
+    kind: RowType,
+    origin: Option<&'a Name<Vec<u8>>>,
+    octets: &mut Vec<u8>,
+) -> Result<(), EntryError>
+    requires found { IsFound row }
+    requires within { kind.index < length row.spans.now }
+    ensures ok { OnOk result ((content : List ℕ)
+        × ScansLonger (SpellsUnder (option_copied origin.entry)) kind.rtype (drop (kind.index + 1) (tokens_in row.entry)) content
+        × (length content ≤ 65535) × (octets.new.items ≡ octets.old.items ++ content)) }
+    ensures err { IfErr result (λ error. is_memory error ≡ false → (content : List ℕ)
+        → ScansLonger (SpellsUnder (option_copied origin.entry)) kind.rtype (drop (kind.index + 1) (tokens_in row.entry)) content → ⊥) }
+{
+    if is_marked(row, kind.index) {
+        return scan_general(alloc, row, kind.index, octets);
+    }
+    let mut scanner = RowScanner::of_row(alloc, row.text, row.place, row.spans, origin);
+    skip_tokens(&mut scanner, kind.index + 1);
+    scan_fields(scanner, kind.rtype, octets)
+}
+
+/// Takes so many tokens, as far as there are some.
+fn skip_tokens(scanner: &mut RowScanner<'_, InlineName>, count: usize)
+    ensures tokens { tokens_of scanner.new ≡ drop count (tokens_of scanner.old) }
+    ensures names { SameNames (names_of scanner.old) (names_of scanner.new) }
+{
+    for _ in 0..count {
+        scanner.skip_token();
+    }
 }
 
 /// Appends the octets of data in general form.
@@ -83,29 +119,19 @@ fn scan_general(
     Ok(())
 }
 
-/// Appends the octets of data that is the fields of a further type.
+/// Appends the octets of the fields of a further type, which are the tokens of the scanner.
 ///
-/// Fails with an error other than `OutOfMemory` only if it is none of at most 65,535 octets. It may then have appended some
-/// octets.
-fn scan_fields<'a>(
-    alloc: Global,
-    row: FoundRow<'a>,
-    kind: RowType,
-    origin: Option<&'a Name<Vec<u8>>>,
+/// Fails with an error other than `OutOfMemory` only if they are no such data of at most 65,535 octets. It may then have
+/// appended some octets.
+fn scan_fields(
+    mut scanner: RowScanner<'_, InlineName>,
+    rtype: u16,
     octets: &mut Vec<u8>,
 ) -> Result<(), EntryError>
-    requires { kind.index < length row.spans.now }
-    ensures ok { OnOk result ((fields : List Field)
-        × ScansFurther (SpellsUnder (option_copied origin.entry)) kind.rtype fields (drop (kind.index + 1) (tokens_in row.entry)) []
-        × (octets.new.items ≡ octets.old.items ++ octets_of fields)) }
-    ensures err { IfErr result (λ error. is_memory error ≡ false → (fields : List Field)
-        → ScansFurther (SpellsUnder (option_copied origin.entry)) kind.rtype fields (drop (kind.index + 1) (tokens_in row.entry)) [] → ⊥) }
+    ensures ok { OnOk result (HasFields (names_of scanner) rtype (tokens_of scanner) octets.old.items octets.new.items) }
+    ensures err { IfErr result (λ error. is_memory error ≡ false → HasNoFields (names_of scanner) rtype (tokens_of scanner)) }
 {
-    let spans = &row.spans[kind.index + 1..];
-    let mut scanner: RowScanner<'_, InlineName> = RowScanner::new(
-        alloc, row.text, row.place, spans, origin,
-    );
-    scan_further_into(Rtype::from_int(kind.rtype), &mut scanner, octets)?;
+    scan_further_into(Rtype::from_int(rtype), &mut scanner, octets)?;
     if scanner.continues() {
         return Err(EntryError::TrailingTokens);
     }

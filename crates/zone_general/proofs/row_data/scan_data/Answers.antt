@@ -1,6 +1,7 @@
-use Rattle.std.proofs.Common.{◌+◌, arith}
+use Rattle.std.proofs.Common.{◌≡◌, ◌+◌, arith, drop}
+use Rattle.dns_entry_scanner.specs.RowScanner.{tokens_of}
 use Rattle.zone_general.specs.Seen.{tokens_in}
-use Rattle.zone_general.proofs.RowData.{fields_scanned, general_scanned, if_err, no_fields, no_general, on_ok}
+use Rattle.zone_general.proofs.RowData.{fields_scanned, fields_there, general_scanned, if_err, no_fields, no_fields_there, no_general, on_ok, same_under, tokens_from}
 use Rattle.zone_general.proofs.row_data.scan_data.Goals as goal
 
 pub returns-then-is_marked-clause-ok : goal.returns-then-is_marked-clause-ok
@@ -19,9 +20,18 @@ returns-then-is_marked-clause-err c =
 
 pub returns-clause-ok : goal.returns-clause-ok
 returns-clause-ok c =
-    on_ok (fields_scanned c.args.octets.now.items c.scan_fields.new.octets.items (λ marked. let yes = c.is_marked.ensures.1 marked in cc))
+    let tokens : tokens_of c.new-scanner.result ≡ drop (c.args.kind.index + 1) (tokens_in c.args.row) =
+    tokens_from c.args.row.text.now c.args.row.spans.now (c.args.kind.index + 1) _ c.new-scanner.ensures.tokens in
+    on_ok
+    (λ has. fields_scanned c.args.octets.now.items c.scan_fields.new.octets.items (λ marked. let yes = c.is_marked.ensures.1 marked in cc)
+    (fields_there (same_under c.new-scanner.ensures.origin) tokens has))
     c.scan_fields.result c.scan_fields.ensures.ok
 
 pub returns-clause-err : goal.returns-clause-err
 returns-clause-err c =
-    if_err (λ error none real. no_fields (λ marked. let yes = c.is_marked.ensures.1 marked in cc) (none real)) c.scan_fields.result c.scan_fields.ensures.err
+    let tokens : tokens_of c.new-scanner.result ≡ drop (c.args.kind.index + 1) (tokens_in c.args.row) =
+    tokens_from c.args.row.text.now c.args.row.spans.now (c.args.kind.index + 1) _ c.new-scanner.ensures.tokens in
+    if_err
+    (λ error none real. no_fields (λ marked. let yes = c.is_marked.ensures.1 marked in cc)
+    (no_fields_there (same_under c.new-scanner.ensures.origin) tokens (none real)))
+    c.scan_fields.result c.scan_fields.ensures.err

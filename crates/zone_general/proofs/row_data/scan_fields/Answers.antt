@@ -1,26 +1,18 @@
-use Rattle.std.proofs.Common.{◌≡◌, ◌+◌, drop}
+use Rattle.std.proofs.Common.{refl}
 use Rattle.dns_entry_scanner.proofs.HandedOn.{handed_on}
-use Rattle.dns_entry_scanner.specs.RowScanner.{tokens_of}
 use Rattle.dns_zonefile.proofs.Directions.{ended}
-use Rattle.zone_general.specs.Seen.{tokens_in}
-use Rattle.zone_general.proofs.RowData.{all_scanned, none_left, none_scanned, tokens_from}
+use Rattle.zone_general.proofs.RowData.{all_scanned, none_left, none_scanned}
 use Rattle.zone_general.proofs.row_data.scan_fields.Goals as goal
 
 pub returns-in_err-scan_further_into-clause-err : goal.returns-in_err-scan_further_into-clause-err
 returns-in_err-scan_further_into-clause-err c =
-    let tokens : tokens_of c.new-scanner.result ≡ drop (c.args.kind.index + 1) (tokens_in c.args.row) =
-    tokens_from c.args.row.text.now c.args.row.spans.now (c.args.kind.index + 1) _ c.new-scanner.ensures.tokens in
     handed_on c.from_residual.result c.in_err-scan_further_into.field-0.0 _ c.from_residual.ensures.1
-    (λ real. none_scanned c.from_int.ensures c.new-scanner.ensures.origin tokens (c.in_err-scan_further_into.ensures.err real))
+    (λ real. none_scanned c.from_int.ensures (c.in_err-scan_further_into.ensures.err real))
 
 pub returns-then-continues-clause-err : goal.returns-then-continues-clause-err
 returns-then-continues-clause-err c =
-    let tokens : tokens_of c.new-scanner.result ≡ drop (c.args.kind.index + 1) (tokens_in c.args.row) =
-    tokens_from c.args.row.text.now c.args.row.spans.now (c.args.kind.index + 1) _ c.new-scanner.ensures.tokens in
-    λ real. none_left c.from_int.ensures c.new-scanner.ensures.origin tokens c.in_ok-scan_further_into.ensures.ok (c.continues.ensures.some.0 c.if-continues.true)
+    λ real. none_left c.from_int.ensures c.in_ok-scan_further_into.ensures.ok (c.continues.ensures.some.0 c.if-continues.true)
 
 pub returns-clause-ok : goal.returns-clause-ok
 returns-clause-ok c =
-    let tokens : tokens_of c.new-scanner.result ≡ drop (c.args.kind.index + 1) (tokens_in c.args.row) =
-    tokens_from c.args.row.text.now c.args.row.spans.now (c.args.kind.index + 1) _ c.new-scanner.ensures.tokens in
-    all_scanned c.from_int.ensures c.new-scanner.ensures.origin tokens c.in_ok-scan_further_into.ensures.ok (ended _ c.continues.ensures.some c.if-continues.false)
+    all_scanned c.from_int.ensures c.in_ok-scan_further_into.ensures.ok (ended _ c.continues.ensures.some c.if-continues.false)

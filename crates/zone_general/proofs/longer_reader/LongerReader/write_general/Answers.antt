@@ -11,7 +11,7 @@ use Rattle.zone_general.proofs.longer_reader.LongerReader.write_general.Goals as
 
 pub returns-clause-ok : goal.returns-clause-ok
 returns-clause-ok c =
-    let scanned = c.in_ok-scan_data.ensures.ok in
+    let scanned = c.in_ok-scan_found_data.ensures.ok in
     let appended = c.in_ok-append_rewritten.ensures in
     let content = scanned.0 in
     let same : c.deref.result.now ≡ content = c.deref.ensures.value ∙ scanned.3 ∙ ap (λ (l : List ℕ). l ++ content) c.clear-2.ensures.items in
