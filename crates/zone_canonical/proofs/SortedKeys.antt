@@ -1,8 +1,10 @@
 -- Records sorted by key and form are sorted by form, since the keys are those of their owners.
-use Rattle.std.proofs.Common.{◌≡◌, ◌+◌, ℕ, Bool, true, false, cond, List, [], ◌∷◌, ◌++◌, get_or, map, refl, sym, ap, ◌∙◌, subst, arith}
-use Rattle.std.specs.List.{All, AllByRecursion, dedup, dedup_from, flat_map}
+use Rattle.std.proofs.Common.{◌≡◌, ◌+◌, ℕ, Bool, true, false, cond, List, [], ◌∷◌, ◌++◌, Some, get_or, map, refl, sym, ap, ◌∙◌, subst, arith}
+use Rattle.std.specs.List.{All, AllByRecursion, IsAllAdjacentAnswer, dedup, dedup_from, flat_map}
 use Rattle.std.specs.List.Sorted.{IsSorted, IsPermutation}
-use Rattle.std.specs.Ordering.{eq_by_cmp, is_eq, is_lt}
+use Rattle.std.specs.Ordering.{as_partial_cmp, eq_by_cmp, is_eq, is_le, is_lt, is_some_and, ordering_reverse, partial_le}
+use Rattle.std.specs.declared.cmp.Ordering.{Ordering}
+use Rattle.std.specs.declared.cmp.Ordering.TheVariants.{Less, Equal, Greater}
 use Rattle.std.proofs.lemmas.List.{get_or-map, length-map}
 use Rattle.std.proofs.lemmas.List.Elements.{All-from_recursion, recursion_from_All}
 use Rattle.std.proofs.lemmas.List.Sorted.{All-permutation, IsPermutation-map}
@@ -10,10 +12,25 @@ use Rattle.zone_records.specs.MessageRecord.{record_octets}
 use Rattle.zone_records.specs.Record.{Record}
 use Rattle.zone_canonical.specs.Canonical.{AreFormsOf, HasCanonicalForm, IsCanonical, canonical_cmp}
 use Rattle.zone_canonical.specs.Form.{form_of}
-use Rattle.zone_canonical.specs.Keyed.{AreEntriesOf, Keyed, form_in, form_octets, keyed, keyed_cmp, tagged, with_key}
+use Rattle.zone_canonical.specs.Keyed.{AreEntriesOf, Keyed, form_in, form_octets, keyed, keyed_cmp, keyed_total, tagged, with_key}
 use Rattle.zone_canonical.proofs.Orders.{key_low, tagged_order}
 use Rattle.zone_canonical.proofs.RecordForms.{are_formed}
 use Rattle.zone_canonical.proofs.SortedForms.{sorted_forms}
+
+-- what is not less than the one before it
+not_less : (o : Ordering) → is_some_and is_le (Some o) ≡ true → is_lt (ordering_reverse o) ≡ false
+not_less Less le = refl
+not_less Equal le = refl
+not_less Greater le = absurd cc
+
+-- entries that `is_sorted` finds in order
+pub in_order : (entries : List Keyed) (sorted : Bool) → IsAllAdjacentAnswer (λ x y b. partial_le (as_partial_cmp keyed_cmp) x y ≡ b) entries sorted
+    → sorted ≡ true → IsSorted keyed_cmp entries
+in_order entries true each is k d from to =
+    let x = get_or entries k d in
+    let y = get_or entries (k + 1) d in
+    ap is_lt (keyed_total.antisymm y x) ∙ not_less (keyed_cmp x y) (each k d to)
+in_order entries false each is = absurd cc
 
 module _ (apex : List (List ℕ)) where
   -- the key is that of the owner

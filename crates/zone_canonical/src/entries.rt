@@ -1,9 +1,10 @@
 //! The entries of lists of records.
 ghost use Rattle.std.specs.Prelude.{◌≡◌, ◌<◌, length, map, slice_get, Some, IfOk};
 ghost use Rattle.std.specs.List.{AllByRecursion};
+ghost use Rattle.std.specs.List.Sorted.{IsPermutation, IsSorted};
 ghost use Rattle.zone_records.specs.Record as spec;
 ghost use Rattle.zone_canonical.specs.Canonical.{HasCanonicalForm};
-ghost use Rattle.zone_canonical.specs.Keyed.{AreEntriesOf, keyed};
+ghost use Rattle.zone_canonical.specs.Keyed.{AreEntriesOf, keyed, keyed_cmp};
 
 use crate::entry::Entry;
 use crate::owner_key::owner_key;
@@ -31,9 +32,20 @@ pub(crate) fn sorted_entries<'a>(
     ensures { IfOk result (λ entries. AreEntriesOf apex.now records.now entries.items) }
 {
     let mut entries = entries_of(alloc, records, apex)?;
-    entries.sort_unstable();
+    sort(&mut entries);
     entries.dedup();
     Ok(entries)
+}
+
+/// Sorts the entries. Those of most zones are in order already, which one pass over them shows.
+fn sort(entries: &mut Vec<Entry<'_>>)
+    ensures permutation { IsPermutation entries.old.items entries.new.items }
+    ensures sorted { IsSorted keyed_cmp entries.new.items }
+{
+    if entries.is_sorted() {
+        return;
+    }
+    entries.sort_unstable();
 }
 
 /// Returns the entries of the records, in the order of the list, with keys relative to the apex. Fails if out of memory.

@@ -6,6 +6,6 @@ use Rattle.zone_canonical.proofs.entries.sorted_entries.Goals as goal
 
 pub returns : goal.returns
 returns c =
-    sorted_keyed c.args.apex.now c.args.records.now c.in_ok-entries.entries.items c.sort_unstable.new.self.items c.dedup.new.self.items
-    c.requires c.in_ok-entries.ensures c.sort_unstable.ensures.permutation c.sort_unstable.ensures.sorted
-    (dedup_is (eq_by_cmp keyed_cmp) c.sort_unstable.new.self.items c.dedup.new.self.items c.dedup.ensures.filtered)
+    sorted_keyed c.args.apex.now c.args.records.now c.in_ok-entries.entries.items c.sort.new.entries.items c.dedup.new.self.items
+    c.requires c.in_ok-entries.ensures c.sort.ensures.permutation c.sort.ensures.sorted
+    (dedup_is (eq_by_cmp keyed_cmp) c.sort.new.entries.items c.dedup.new.self.items c.dedup.ensures.filtered)
