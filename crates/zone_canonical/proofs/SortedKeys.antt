@@ -30,7 +30,7 @@ in_order entries true each is k d from to =
     let x = get_or entries k d in
     let y = get_or entries (k + 1) d in
     ap is_lt (keyed_total.antisymm y x) ∙ not_less (keyed_cmp x y) (each k d to)
-in_order entries false each is = absurd cc
+in_order entries false each is k d from to = absurd cc
 
 module _ (apex : List (List ℕ)) where
   -- the key is that of the owner

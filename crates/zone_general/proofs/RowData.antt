@@ -123,8 +123,8 @@ same_under {known} is =
 
 -- fields of a scanner's tokens, by other names for the same texts
 module _ {names others : Names} {rtype : ℕ} {given tokens : List Token} (same : SameNames names others) (tokens_are : given ≡ tokens) where
-  pub fields_there : {old new : List ℕ} → HasFields others rtype given old new → HasFields names rtype tokens old new
-  fields_there has =
+  pub fields_there : (old new : List ℕ) → HasFields others rtype given old new → HasFields names rtype tokens old new
+  fields_there old new has =
       (has.0, subst (λ (l : List Token). ScansFurther names rtype has.0 l []) tokens_are (further_there same has.1), has.2)
 
   pub no_fields_there : HasNoFields others rtype given → HasNoFields names rtype tokens

@@ -105,8 +105,12 @@ fn gap_end(text: &[u8], place: usize, inside: bool) -> (usize, bool)
 fn side_behind(octet: u8, inside: bool) -> Option<bool>
     ensures { result ≡ side_of (head_of inside octet) }
 {
+    // Most of these octets are spaces and tabs.
+    if octet == b' ' || octet == b'\t' {
+        return Some(inside);
+    }
     match octet {
-        b' ' | b'\t' | b'\r' => Some(inside),
+        b'\r' => Some(inside),
         b'\n' if inside => Some(true),
         b'(' if !inside => Some(true),
         b')' if inside => Some(false),

@@ -128,8 +128,8 @@ fn scan_fields(
     rtype: u16,
     octets: &mut Vec<u8>,
 ) -> Result<(), EntryError>
-    ensures ok { OnOk result (HasFields (names_of scanner) rtype (tokens_of scanner) octets.old.items octets.new.items) }
-    ensures err { IfErr result (λ error. is_memory error ≡ false → HasNoFields (names_of scanner) rtype (tokens_of scanner)) }
+    ensures ok { OnOk result (HasFields (names_of scanner.entry) rtype (tokens_of scanner.entry) octets.old.items octets.new.items) }
+    ensures err { IfErr result (λ error. is_memory error ≡ false → HasNoFields (names_of scanner.entry) rtype (tokens_of scanner.entry)) }
 {
     scan_further_into(Rtype::from_int(rtype), &mut scanner, octets)?;
     if scanner.continues() {

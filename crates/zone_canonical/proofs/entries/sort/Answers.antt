@@ -1,7 +1,5 @@
-use Rattle.std.proofs.Common.{List, length, subst}
-use Rattle.std.specs.List.{IsAllAdjacentAnswer}
+use Rattle.std.proofs.Common.{List, subst}
 use Rattle.std.specs.List.Sorted.{IsSorted}
-use Rattle.std.specs.Ordering.{as_partial_cmp, partial_le}
 use Rattle.std.proofs.lemmas.List.Sorted.{IsPermutation-refl}
 use Rattle.zone_canonical.specs.Keyed.{Keyed, keyed_cmp}
 use Rattle.zone_canonical.proofs.SortedKeys.{in_order}

@@ -24,7 +24,7 @@ returns-clause-ok c =
     tokens_from c.args.row.text.now c.args.row.spans.now (c.args.kind.index + 1) _ c.new-scanner.ensures.tokens in
     on_ok
     (λ has. fields_scanned c.args.octets.now.items c.scan_fields.new.octets.items (λ marked. let yes = c.is_marked.ensures.1 marked in cc)
-    (fields_there (same_under c.new-scanner.ensures.origin) tokens has))
+    (fields_there (same_under c.new-scanner.ensures.origin) tokens c.args.octets.now.items c.scan_fields.new.octets.items has))
     c.scan_fields.result c.scan_fields.ensures.ok
 
 pub returns-clause-err : goal.returns-clause-err

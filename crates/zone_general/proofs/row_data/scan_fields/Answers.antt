@@ -1,4 +1,3 @@
-use Rattle.std.proofs.Common.{refl}
 use Rattle.dns_entry_scanner.proofs.HandedOn.{handed_on}
 use Rattle.dns_zonefile.proofs.Directions.{ended}
 use Rattle.zone_general.proofs.RowData.{all_scanned, none_left, none_scanned}

@@ -1,8 +1,7 @@
 use Rattle.std.proofs.Common.{◌≡◌, ◌+◌, ◌∙◌, ap, arith, drop}
-use Rattle.dns_scan.specs.Token.{SameNames, Token}
+use Rattle.dns_scan.specs.Token.{Token}
 use Rattle.dns_scan.proofs.SymbolsRead.{same_names_join}
-use Rattle.dns_entry_scanner.specs.NameInText.{SpellsUnder}
-use Rattle.dns_entry_scanner.specs.RowScanner.{names_of, tokens_of}
+use Rattle.dns_entry_scanner.specs.RowScanner.{tokens_of}
 use Rattle.zone_general.specs.Seen.{tokens_in}
 use Rattle.zone_general.proofs.RowData.{fields_scanned, fields_there, general_scanned, if_err, no_fields, no_fields_there, no_general, on_ok, same_under}
 use Rattle.zone_general.proofs.row_data.scan_found_data.Goals as goal
@@ -30,7 +29,7 @@ returns-clause-ok c =
     c.skip_tokens.ensures.tokens ∙ ap (drop {A = Token} (c.args.kind.index + 1)) c.of_row-scanner.ensures.tokens in
     on_ok
     (λ has. fields_scanned c.args.octets.now.items c.scan_fields.new.octets.items (λ marked. let yes = c.is_marked.ensures.1 marked in cc)
-    (fields_there (same_names_join _ _ _ (same_under c.of_row-scanner.ensures.origin) c.skip_tokens.ensures.names) tokens has))
+    (fields_there (same_names_join _ _ _ (same_under c.of_row-scanner.ensures.origin) c.skip_tokens.ensures.names) tokens c.args.octets.now.items c.scan_fields.new.octets.items has))
     c.scan_fields.result c.scan_fields.ensures.ok
 
 pub returns-clause-err : goal.returns-clause-err
