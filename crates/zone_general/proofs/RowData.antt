@@ -112,7 +112,7 @@ module _ {number rtype : ℕ} {origin : Option (List (List ℕ))} {tokens : List
   all_scanned appends ends = (
     appends.row,
     subst (λ (n : ℕ). ScansFurther (SpellsUnder origin) n appends.row tokens []) number_is
-    (subst (λ (l : List Token). ScansFurther (SpellsUnder origin) number appends.row tokens l) ends appends.scans),
+        (subst (λ (l : List Token). ScansFurther (SpellsUnder origin) number appends.row tokens l) ends appends.scans),
     appends.behind,
   )
 
