@@ -24,6 +24,9 @@ pub fn append_in_full<T: Truncate, N: ToName>(target: &mut T, name: &N) -> Resul
     ensures same_bound { T.bound target.new ≡ T.bound target.old }
     ensures stays { T.stays target.old target.new }
 {
+    if let Some(flat) = name.as_flat_slice() {
+        return target.append_slice(flat);
+    }
     let len = target.octets().len();
     match append_labels(target, name) {
         Ok(()) => Ok(()),
