@@ -1,5 +1,5 @@
 #!/usr/bin/env python3
-"""early_check.py CRATE [--only PATH ..] [--kept] [--jobs N]: checks functions of a crate before the libraries below are proved.
+"""early_check.py CRATE [--only PATH ..] [--kept [--source LIBRARY ..]] [--jobs N]: checks functions of a crate before the libraries below are proved.
 
     python3 tools/early_check.py zone_tool --only explain::words
 
@@ -8,7 +8,7 @@ source, and so checks the functions of PATH, and those that they call, alone: a 
 their proofs. Without --only it checks names, types and borrows, and no proof. PATH is a function, a type or a module, below the crate.
 
 --kept takes those libraries as they are that the gate keeps on this machine, the newest of each, and so is faster, and does not check
-functions of theirs; use it only where their sources are the ones that were proved. Goals that are open are printed, as with
+functions of theirs; use it only where their sources are the ones that were proved, and name those that have changed with --source. Goals that are open are printed, as with
 `rt check --allow-holes`. What is checked is kept in build/early. It gives no verdict: the gate does."""
 import argparse
 import json
@@ -58,7 +58,7 @@ def words_for(crate, asked):
     below = sorted(lower(crate, needs), key=lambda it: len(lower(it, needs)))
     built = {}
     for it in below if asked.kept else ():
-        if all(other in built for other in lower(it, needs)) and (found := newest_kept(it)):
+        if it not in asked.source and all(other in built for other in lower(it, needs)) and (found := newest_kept(it)):
             built[it] = found
     root = "src/main.rt" if (ROOT / "crates" / crate / "src/main.rt").is_file() else "src/lib.rt"
     words = ["--crate-name", crate, root, "--jobs", str(asked.jobs), "--incremental", str(PLACE / "work")]
@@ -79,6 +79,7 @@ def main():
     parser.add_argument("crate")
     parser.add_argument("--only", nargs="+", metavar="PATH", help="functions, types or modules; none: names, types and borrows")
     parser.add_argument("--kept", action="store_true", help="libraries that the gate keeps are taken as they are")
+    parser.add_argument("--source", nargs="+", default=[], metavar="LIBRARY", help="take these, and what is above them, as source all the same")
     parser.add_argument("--jobs", type=int, default=min(processors(), 2), metavar="N")
     asked = parser.parse_args()
     if asked.crate not in needs_of():

@@ -1,25 +1,26 @@
 -- The fronts of rows, found by the mask of 64 octets.
-use Rattle.std.proofs.Common.{◌≡◌, ◌==◌, ◌||◌, ◌+◌, ◌-◌, ◌*◌, ◌/◌, ◌^◌, ◌<◌, ◌≤◌, ℕ, suc, zero, Bool, true, false, not, cond, nat_lt, List, [], ◌∷◌, ◌++◌, Some, length, map, take, drop, get_or, refl, sym, ◌∙◌, ap, subst, arith, length-append, length-drop}
+use Rattle.std.proofs.Common.{◌≡◌, ◌==◌, ◌||◌, ◌+◌, ◌-◌, ◌*◌, ◌/◌, ◌^◌, ◌<◌, ◌≤◌, ℕ, suc, Bool, true, false, not, cond, nat_lt, List, [], ◌∷◌, ◌++◌, Some, length, map, take, drop, get_or, refl, sym, ◌∙◌, ap, subst, arith, length-drop}
 use native.Mathlib.Nat.{pow-suc, mul_comm, mul_assoc}
 use lib.Count.{count_trailing_zeros}
 use lib.Lanes.{chunk, mask_l}
 use Rattle.std.specs.List.{prefix_len}
 use Rattle.std.proofs.Math.Seq.{drop-append-le, take-add}
-use Rattle.std.proofs.lemmas.Bool.{or_parts, not-true, ltb-false, ne_eqb, eqb-false}
+use Rattle.std.proofs.lemmas.Bool.{or_parts, not-true, ltb-false, ne_eqb}
 use Rattle.std.proofs.lemmas.List.{drop-drop, drop_more, length-map, take_all}
 use Rattle.std.proofs.lemmas.Simd.{chunk-drop, length-chunk, mask_l-lt}
 use Rattle.dns_label.proofs.OctetRuns.{last_mask, some_other}
 use Rattle.dns_text.specs.Rows.{is_led}
-use Rattle.dns_text.specs.Tokens.{Head, Next, head_of, is_gap}
+use Rattle.dns_text.specs.Tokens.{Next, head_of}
 use Rattle.dns_text.specs.Tokens.Head.{Feed, Go, Word}
 use Rattle.dns_entry_scanner.specs.BegunRow.{BegunRow}
+use Rattle.dns_entry_scanner.specs.Gap.{end_in}
 use Rattle.dns_entry_scanner.specs.Octets.{is_in_word, is_plain_in}
 use Rattle.dns_entry_scanner.specs.RowFound.{IsRowAt}
-use Rattle.dns_entry_scanner.specs.TokenEnd.{HasEscape, NoEscape, RunsTo, between}
+use Rattle.dns_entry_scanner.specs.TokenEnd.{NoEscape, RunsTo, between}
 use Rattle.dns_entry_scanner.specs.TokenSpan.{has_backslash, token_in}
 use Rattle.dns_entry_scanner.specs.declared.token_end.TokenEnd.{TokenEnd}
 use Rattle.dns_entry_scanner.specs.declared.token_span.TokenSpan.{TokenSpan}
-use Rattle.dns_entry_scanner.proofs.Rows.{held_last, held_more, held_none, held_over}
+use Rattle.dns_entry_scanner.proofs.Rows.{held_last, held_more, held_over}
 use Rattle.dns_entry_scanner.proofs.Steps.{SameNext, next_feed, next_word, same_go}
 use Rattle.dns_entry_scanner.proofs.TokenRuns.{over_to, runs_to, taken_to}
 
@@ -114,8 +115,8 @@ four_masks text place room =
     )
 
 -- an octet of a word begins one
-word_head : (octet : ℕ) → is_in_word octet ≡ true → head_of false octet ≡ Word
-word_head octet is =
+word_head : (inside : Bool) (octet : ℕ) → is_in_word octet ≡ true → head_of inside octet ≡ Word
+word_head inside octet is =
     let all = or_parts (((nat_lt octet 33 || nat_lt 126 octet) || ((octet == 40) || (octet == 41))) || ((octet == 34) || (octet == 59))) (octet == 92) (not-true _ is) in
     let three = or_parts ((nat_lt octet 33 || nat_lt 126 octet) || ((octet == 40) || (octet == 41))) ((octet == 34) || (octet == 59)) all.0 in
     let two = or_parts (nat_lt octet 33 || nat_lt 126 octet) ((octet == 40) || (octet == 41)) three.0 in
@@ -148,32 +149,31 @@ no_escape text place within other rest has =
 refl_same : (inside : Bool) (text : List ℕ) → SameNext inside text inside text
 refl_same inside text = record { on = λ found out rest next. next; back = λ found out rest next. next }
 
-pub front_gap : {text : List ℕ} {place : ℕ} {spans : List TokenSpan} (start at : ℕ) → start + at < length text
-    → head_of false (get_or text (start + at) 0) ≡ Go false → BegunRow text place spans false (drop (start + at) text)
-    → BegunRow text place spans false (drop (start + (at + 1)) text)
-front_gap {text} {place} {spans} start at within head held =
-    let place_is : (start + at) + 1 ≡ start + (at + 1) = omega arith in
-    subst (λ n. BegunRow text place spans false (drop n text)) place_is
-    (held_over held (same_go text (start + at) within (refl_same false (drop (start + at) text)) false head))
+pub front_gap : {text : List ℕ} {start : ℕ} {spans : List TokenSpan} {inside : Bool} (behind : Bool) (from at : ℕ) → from + at < length text
+    → head_of inside (get_or text (from + at) 0) ≡ Go behind → BegunRow text start spans inside (from + at)
+    → BegunRow text start spans behind (from + (at + 1))
+front_gap {text} {start} {spans} {inside} behind from at within head held =
+    let place_is : (from + at) + 1 ≡ from + (at + 1) = omega arith in
+    subst (λ n. BegunRow text start spans behind n) place_is
+    (held_over held (same_go text (from + at) within (refl_same inside (drop (from + at) text)) behind head))
 
-pub front_feed : {text : List ℕ} {place : ℕ} {spans : List TokenSpan} {blank_led : Bool} (at : ℕ) → at < length text → head_of false (get_or text at 0) ≡ Feed
-    → BegunRow text place spans false (drop at text) → blank_led ≡ is_led (drop place text) → IsRowAt text place spans (at + 1) blank_led
-front_feed {text} at within head held leads =
-    held_last text held refl (next_feed text at within (refl_same false (drop at text)) head) refl (omega (arith, within)) leads
+pub front_feed : {text : List ℕ} {start : ℕ} {spans : List TokenSpan} {inside : Bool} (at : ℕ) → at < length text
+    → head_of inside (get_or text at 0) ≡ Feed → BegunRow text start spans inside at → IsRowAt text start spans (at + 1) (is_led (drop start text))
+front_feed {text} {inside = inside} at within head held =
+    held_last held (next_feed text at within (refl_same inside (drop at text)) head) (omega (arith, within)) refl
 
-pub front_word : {text : List ℕ} {place : ℕ} {spans all : List TokenSpan} (start at len : ℕ) → start + 64 ≤ length text
-    → WordAt (chunk start 64 text) at len → 0 < len → (get_or text (start + at + len) 0 ≡ 92 → ⊥)
-    → BegunRow text place spans false (drop (start + at) text)
-    → all ≡ spans ++ (record { start = start + at; len = len; quoted = false; has_escape = false }) ∷ []
-    → BegunRow text place all false (drop (start + (at + len)) text)
-front_word {text} {place} {spans} {all} start at len room word some other held is =
-    let window = chunk start 64 text in
-    let rest = drop (start + 64) text in
-    let from = start + at in
+pub front_word : {text : List ℕ} {start : ℕ} {spans all : List TokenSpan} {inside : Bool} (from at len : ℕ) → from + 64 ≤ length text
+    → WordAt (chunk from 64 text) at len → 0 < len → (get_or text (from + at + len) 0 ≡ 92 → ⊥) → BegunRow text start spans inside (from + at)
+    → all ≡ spans ++ (record { start = from + at; len = len; quoted = false; has_escape = false }) ∷ []
+    → BegunRow text start all inside (from + (at + len))
+front_word {text} {start} {spans} {all} {inside} window_start at len room word some other held is =
+    let window = chunk window_start 64 text in
+    let rest = drop (window_start + 64) text in
+    let from = window_start + at in
     let end : TokenEnd = record { place = from + len; has_escape = false } in
-    let size : length window ≡ 64 = length-chunk start 64 text room in
+    let size : length window ≡ 64 = length-chunk window_start 64 text room in
     let split : drop from text ≡ drop at window ++ rest =
-    sym (drop-drop at start text) ∙ ap (drop {A = ℕ} at) (chunk-drop start 64 text)
+    sym (drop-drop at window_start text) ∙ ap (drop {A = ℕ} at) (chunk-drop window_start 64 text)
     ∙ drop-append-le at window rest (omega (arith, size, word.within)) in
     let left : length (drop at window) ≡ 64 - at = length-drop at window ∙ ap (λ n. n - at) size in
     let run : len ≡ prefix_len is_in_word (drop from text) =
@@ -191,18 +191,18 @@ front_word {text} {place} {spans} {all} start at len room word some other held i
     let span : TokenSpan = record { start = from; len = len; quoted = false; has_escape = false } in
     let long : (from + len) - from ≡ len = omega arith in
     let text_is : between from (from + len) text ≡ take len (drop from text) = ap (λ n. take n (drop from text)) long in
-    let next : Next false (drop from text) (Some (token_in text span)) false (drop (from + len) text) =
-    subst (λ l. Next false (drop from text) (Some (record { quoted = false; text = l })) false (drop (from + len) text)) text_is
-    (next_word false text from end within (omega arith) (omega (arith, room, word.within)) (word_head (get_or text from 0) first) to (λ none. omega (arith, none, some))) in
-    let place_is : from + len ≡ start + (at + len) = omega arith in
-    subst (λ n. BegunRow text place all false (drop n text)) place_is
-    (held_more span text held refl next (subst (λ l. false ≡ has_backslash l) text_is to.marked) is)
+    let next : Next inside (drop from text) (Some (token_in text span)) inside (drop (from + len) text) =
+    subst (λ l. Next inside (drop from text) (Some (record { quoted = false; text = l })) inside (drop (from + len) text)) text_is
+    (next_word inside text from end within (omega arith) (omega (arith, room, word.within)) (word_head inside (get_or text from 0) first) to (λ none. omega (arith, none, some))) in
+    let end_at : from + len ≡ end_in text span = omega (arith, length-chunk from len text (omega (arith, room, word.within)), within) in
+    let place_is : from + len ≡ window_start + (at + len) = omega arith in
+    subst (λ n. BegunRow text start all inside n) place_is
+    (held_more span held next end_at (subst (λ l. false ≡ has_backslash l) text_is to.marked) is)
 
-pub front_none : {text : List ℕ} {spans : List TokenSpan} (place : ℕ) → spans ≡ [] → BegunRow text place spans false (drop (place + 0) text)
-front_none {text} {spans} place none =
-    let here : place ≡ place + 0 = omega arith in
-    subst (λ n. BegunRow text place spans false (drop n text)) here
-    (subst (λ l. BegunRow text place l false (drop place text)) (sym none) (held_none text place))
+pub front_none : {text : List ℕ} {start : ℕ} {spans : List TokenSpan} {inside : Bool} (place : ℕ) → BegunRow text start spans inside place
+    → BegunRow text start spans inside (place + 0)
+front_none {text} {start} {spans} {inside} place held =
+    let here : place ≡ place + 0 = omega arith in subst (λ n. BegunRow text start spans inside n) here held
 
 pub window : (text : List ℕ) (place at len ends : ℕ) → place + 64 ≤ length text → ends ≡ others (chunk place 64 text) → 0 < len
     → ((octets : List ℕ) → length octets ≡ 64 → ends ≡ others octets → 0 < len → len ≡ prefix_len is_in_word (drop at octets))

@@ -1,5 +1,5 @@
 -- Rows, token by token, and the end of a text.
-use Rattle.std.proofs.Common.{◌≡◌, ◌==◌, ℕ, ◌+◌, ◌<◌, ◌≤◌, Bool, true, false, List, [], ◌∷◌, ◌++◌, length, map, drop, get_or, Option, Some, None, if◌then◌else◌, not, refl, sym, ◌∙◌, ap, subst, arith, length-append}
+use Rattle.std.proofs.Common.{◌≡◌, ◌==◌, ℕ, ◌+◌, ◌<◌, ◌≤◌, Bool, true, false, List, [], ◌∷◌, ◌++◌, length, map, drop, get_or, Option, Some, None, if◌then◌else◌, not, refl, sym, ◌∙◌, ap, subst, arith, append_assoc, length-append}
 use Rattle.std.proofs.lemmas.List.{append-nil, drop_more, length-drop}
 use Rattle.std.specs.Prelude.{All}
 use Rattle.std.proofs.lemmas.List.Elements.{All-nil, All-push}
@@ -10,7 +10,9 @@ use Rattle.dns_text.specs.Tokens.{Next, Row, from_feed, has_feed, is_end}
 use Rattle.dns_text.specs.Tokens.Next.{ended, goes, comment, quoted, unquoted}
 use Rattle.dns_text.specs.Tokens.Row.{end, token}
 use Rattle.dns_entry_scanner.specs.BegunRow.{BegunRow}
-use Rattle.dns_entry_scanner.specs.RowFound.{IsRowAt, NoRow}
+use Rattle.dns_entry_scanner.specs.Gap.{end_in}
+use Rattle.dns_entry_scanner.specs.RowFound.{AreNext, IsRowAt, NoRow}
+use Rattle.dns_entry_scanner.specs.RowFound.AreNext.{ended as last_next, token as later}
 use Rattle.dns_entry_scanner.specs.TokenSpan.{IsMarked, NoNext, token_in}
 use Rattle.dns_entry_scanner.specs.declared.token_span.TokenSpan.{TokenSpan}
 use Rattle.dns_entry_scanner.proofs.Steps.{SameNext, one_next}
@@ -53,19 +55,22 @@ tokens_more : (text : List ℕ) (spans : List TokenSpan) (span : TokenSpan) (oth
 tokens_more text [] span others = refl
 tokens_more text (first ∷ spans) span others = ap (λ l. token_in text first ∷ l) (tokens_more text spans span others)
 
-pub held_more : {text left behind : List ℕ} {place : ℕ} {spans all : List TokenSpan} {inside out : Bool} (span : TokenSpan) (seen : List ℕ)
-    → BegunRow text place spans inside left → seen ≡ text → Next inside left (Some (token_in seen span)) out behind → IsMarked seen span
-    → all ≡ spans ++ span ∷ [] → BegunRow text place all out behind
-held_more {text} {left} {behind} {place} {spans} {all} {inside} {out} span seen held same next marked is =
-    let here : Next inside left (Some (token_in text span)) out behind =
-    subst (λ (l : List ℕ). Next inside left (Some (token_in l span)) out behind) same next in
-    let more : BegunRow text place (spans ++ span ∷ []) out behind = record {
-      on = λ others rest row. subst (λ (l : List Token). Row false (drop place text) l rest) (sym (tokens_more text spans span others))
-          (held.on (token_in text span ∷ others) rest (token out behind here row));
+pub held_more : {text : List ℕ} {start place behind : ℕ} {spans all : List TokenSpan} {inside out : Bool} (span : TokenSpan)
+    → BegunRow text start spans inside place → Next inside (drop place text) (Some (token_in text span)) out (drop behind text)
+    → behind ≡ end_in text span → IsMarked text span → all ≡ spans ++ span ∷ [] → BegunRow text start all out behind
+held_more {text} {start} {place} {behind} {spans} {all} {inside} {out} span held next place_is marked is =
+    let here : Next inside (drop place text) (Some (token_in text span)) out (drop (end_in text span) text) =
+    subst (λ (n : ℕ). Next inside (drop place text) (Some (token_in text span)) out (drop n text)) place_is next in
+    let more : BegunRow text start (spans ++ span ∷ []) out (end_in text span) = record {
+      on = λ others rest row. subst (λ (l : List Token). Row false (drop start text) l rest) (sym (tokens_more text spans span others))
+          (held.on (token_in text span ∷ others) rest (token out (drop (end_in text span) text) here row));
       back = λ tokens rest row. let left_row = held.back tokens rest row in row_behind here left_row.1;
-      marked = All-push (IsMarked text) spans span held.marked (subst (λ (l : List ℕ). IsMarked l span) same marked);
+      placed = λ others next are. subst (λ (l : List TokenSpan). AreNext text false start l next) (sym (append_assoc spans (span ∷ []) others))
+          (held.placed (span ∷ others) next (later here are));
+      marked = All-push (IsMarked text) spans span held.marked marked;
     } in
-    subst (λ (l : List TokenSpan). BegunRow text place l out behind) (sym is) more
+    subst (λ (l : List TokenSpan). BegunRow text start l out behind) (sym is)
+    (subst (λ (n : ℕ). BegunRow text start (spans ++ span ∷ []) out n) (sym place_is) more)
 
 -- a row ends outside parentheses
 ends_outside : {inside out : Bool} {text rest : List ℕ} → Next inside text None out rest → out ≡ false
@@ -73,30 +78,29 @@ ends_outside (ended octet head) = refl
 ends_outside (goes octet behind head next) = ends_outside next
 ends_outside (comment octet head next) = ends_outside next
 
-pub held_last : {text left behind : List ℕ} {place next : ℕ} {spans : List TokenSpan} {inside out blank_led : Bool} (seen : List ℕ)
-    → BegunRow text place spans inside left → seen ≡ text → Next inside left None out behind → drop next seen ≡ behind → next ≤ length seen
-    → blank_led ≡ is_led (drop place text) → IsRowAt text place spans next blank_led
-held_last {text} {left} {behind} {place} {next} {spans} {inside} {out} {blank_led} seen held same ends at within leads =
+pub held_last : {text : List ℕ} {start place next : ℕ} {spans : List TokenSpan} {inside out blank_led : Bool} → BegunRow text start spans inside place
+    → Next inside (drop place text) None out (drop next text) → next ≤ length text → blank_led ≡ is_led (drop start text)
+    → IsRowAt text start spans next blank_led
+held_last {text} {start} {place} {next} {spans} {inside} {out} held ends within leads =
     let tokens = map (λ span. token_in text span) spans in
-    let last : Next inside left None false behind = subst (λ (b : Bool). Next inside left None b behind) (ends_outside ends) ends in
-    let left_at : drop next text ≡ behind = ap (λ l. drop next l) (sym same) ∙ at in
-    let row : Row false (drop place text) tokens (drop next text) =
-    subst (λ (l : List ℕ). Row false (drop place text) tokens l) (sym left_at)
-    (subst (λ (l : List Token). Row false (drop place text) l behind) (append-nil tokens) (held.on [] behind (end last))) in
-    let most : next ≤ length text = omega (arith, within, ap (length {A = ℕ}) same) in record {
+    let last : Next inside (drop place text) None false (drop next text) =
+    subst (λ (b : Bool). Next inside (drop place text) None b (drop next text)) (ends_outside ends) ends in
+    let row : Row false (drop start text) tokens (drop next text) =
+    subst (λ (l : List Token). Row false (drop start text) l (drop next text)) (append-nil tokens) (held.on [] (drop next text) (end last)) in record {
       row = row;
+      placed = subst (λ (l : List TokenSpan). AreNext text false start l next) (append-nil spans) (held.placed [] next (last_next last));
       marked = held.marked;
       leads = leads;
-      behind = omega (arith, row_shorter row, length-drop place text, length-drop next text);
-      within = most;
+      behind = omega (arith, row_shorter row, length-drop start text, length-drop next text);
+      within = within;
     }
 
 none_of_row : {inside : Bool} {text rest : List ℕ} {tokens : List Token} → NoNext inside text → Row inside text tokens rest → ⊥
 none_of_row none (end next) = none _ _ _ next
 none_of_row none (token out left next others) = none _ _ _ next
 
-pub held_broken : {text left : List ℕ} {place : ℕ} {spans : List TokenSpan} {inside : Bool} → BegunRow text place spans inside left
-    → NoNext inside left → NoRow (drop place text)
+pub held_broken : {text : List ℕ} {start place : ℕ} {spans : List TokenSpan} {inside : Bool} → BegunRow text start spans inside place
+    → NoNext inside (drop place text) → NoRow (drop start text)
 held_broken held none tokens rest row = let left_row = held.back tokens rest row in none_of_row none left_row.1
 
 end_feed : (octet : ℕ) (text : List ℕ) (feed : Bool) → (octet == 10) ≡ feed → not (has_feed text) ≡ is_end (from_feed text)
@@ -116,9 +120,27 @@ end_at_comment text place stop within is feed =
     ap is_end (drop_more text place 0 within) ∙ ap (λ (n : ℕ). is_end (n ∷ drop (place + 1) text)) is
     ∙ end_behind_comment (drop (place + 1) text) ∙ ap is_end (sym feed)
 
--- a row that begins with nothing
-pub held_none : (text : List ℕ) (place : ℕ) → BegunRow text place [] false (drop place text)
-held_none text place = record { on = λ others rest row. row; back = λ tokens rest row. (tokens, row); marked = All-nil (IsMarked text) }
+are_from : {text : List ℕ} {inside : Bool} {place place' next : ℕ} {spans : List TokenSpan} → drop place text ≡ drop place' text
+    → AreNext text inside place spans next → AreNext text inside place' spans next
+are_from {text} {inside} {next = next} same (last_next ends) = last_next (subst (λ (l : List ℕ). Next inside l None false (drop next text)) same ends)
+are_from {text} {inside} same (later {out = out} {span = span} first others) =
+    later (subst (λ (l : List ℕ). Next inside l (Some (token_in text span)) out (drop (end_in text span) text)) same first) others
+
+-- a row that begins with nothing, also behind the end of the text
+pub held_none : (text : List ℕ) (start place : ℕ) (spans : List TokenSpan) → spans ≡ [] → drop place text ≡ drop start text
+    → BegunRow text start spans false place
+held_none text start place spans none same =
+    subst (λ (l : List TokenSpan). BegunRow text start l false place) (sym none) (record {
+      on = λ others rest row. subst (λ (l : List ℕ). Row false l others rest) same row;
+      back = λ tokens rest row. (tokens, subst (λ (l : List ℕ). Row false l tokens rest) (sym same) row);
+      placed = λ others next are. are_from same are;
+      marked = All-nil (IsMarked text);
+    })
+
+-- what is no token
+pub none_found : (found : Option TokenSpan) → ((span : TokenSpan) → found ≡ Some span → ⊥) → found ≡ None
+none_found None none = refl
+none_found (Some span) none = absurd (none span refl)
 
 -- and what is passed over
 row_on : {inside inside' : Bool} {left left' rest : List ℕ} {tokens : List Token} → SameNext inside left inside' left'
@@ -131,10 +153,16 @@ row_back : {inside inside' : Bool} {left left' rest : List ℕ} {tokens : List T
 row_back same (end next) = end (same.back _ _ _ next)
 row_back same (token out behind next row) = token out behind (same.back _ _ _ next) row
 
-pub held_over : {text left left' : List ℕ} {place : ℕ} {spans : List TokenSpan} {inside inside' : Bool} → BegunRow text place spans inside left
-    → SameNext inside left inside' left' → BegunRow text place spans inside' left'
+next_on : {text : List ℕ} {inside inside' : Bool} {place place' next : ℕ} {spans : List TokenSpan}
+    → SameNext inside (drop place text) inside' (drop place' text) → AreNext text inside' place' spans next → AreNext text inside place spans next
+next_on same (last_next next) = last_next (same.on _ _ _ next)
+next_on same (later next others) = later (same.on _ _ _ next) others
+
+pub held_over : {text : List ℕ} {start place place' : ℕ} {spans : List TokenSpan} {inside inside' : Bool} → BegunRow text start spans inside place
+    → SameNext inside (drop place text) inside' (drop place' text) → BegunRow text start spans inside' place'
 held_over held same = record {
   on = λ others rest row. held.on others rest (row_on same row);
   back = λ tokens rest row. let at = held.back tokens rest row in (at.0, row_back same at.1);
+  placed = λ others next are. held.placed others next (next_on same are);
   marked = held.marked;
 }

@@ -1,6 +1,6 @@
 -- At most one token follows at a place: what the first octet decides, and how white space, comments and parentheses are
 -- passed.
-use Rattle.std.proofs.Common.{◌≡◌, ℕ, ◌+◌, ◌-◌, ◌<◌, ◌≤◌, Bool, true, false, List, [], ◌∷◌, ◌++◌, length, drop, get_or, Option, Some, None, refl, sym, ◌∙◌, ap, subst, arith}
+use Rattle.std.proofs.Common.{◌≡◌, ℕ, ◌+◌, ◌-◌, ◌<◌, ◌≤◌, Bool, true, false, List, [], ◌∷◌, ◌++◌, length, min, take, drop, get_or, Option, Some, None, refl, sym, ◌∙◌, ap, subst, arith}
 use Rattle.std.proofs.lemmas.List.{drop_all, drop_more, length-drop, length-take-le}
 use Rattle.std.proofs.lemmas.Bool.{false≢true}
 use Rattle.std.specs.List.{flat_map}
@@ -201,3 +201,10 @@ none_word inside text place end within head to none found out rest next =
 -- if `?` returns early, what holds of None holds
 pub none_given : {X : Type 0} {r : Option X} {P : Type 0} → r ≡ None → P → IfNone r P
 none_given {X} {r} {P} is p = subst (λ (o : Option X). IfNone o P) (sym is) p
+
+-- where a token ends that is at a place of the text
+pub step_end : (text : List ℕ) (start end : ℕ) → start ≤ end → end ≤ length text
+    → end ≡ min start (length text) + length (take (end - start) (drop start text))
+step_end text start end behind within =
+    let left = length-drop start text in
+    omega (arith, length-take-le (end - start) (drop start text) (omega (arith, left, within)))

@@ -17,6 +17,7 @@ pub(crate) enum Head {
 }
 
 /// Returns what the octet means between two tokens.
+#[inline(always)]
 pub(crate) fn head_of(inside: bool, octet: u8) -> Head
     ensures { spec_head_of inside octet ≡ head_in result }
 {

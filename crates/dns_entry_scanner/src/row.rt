@@ -2,12 +2,13 @@
 ghost use Rattle.std.specs.Prelude.{◌≡◌, List, drop, IfOk};
 ghost use Rattle.dns_text.specs.Rows.{is_led};
 ghost use Rattle.dns_text.specs.Tokens.{is_end};
-ghost use Rattle.dns_entry_scanner.specs.RowFound.{NoRow, IsFoundAt};
+ghost use Rattle.dns_entry_scanner.specs.RowFound.{IsFoundAt, IsRowAt, NoRow};
 ghost use Rattle.dns_entry_scanner.specs.declared.token_span.TokenSpan.{TokenSpan};
 
+use crate::TokenSpan;
 use crate::plain_octets::line_end;
 use crate::row_front::read_front;
-use crate::{RowReader, TokenSpan};
+use crate::step::next_step;
 use std::alloc::AllocError;
 
 /// What is at a place of a text.
@@ -37,25 +38,32 @@ pub fn read_row(
     ensures { IfOk result (λ found. IsFoundAt text.now place tokens.new.items found) }
 {
     tokens.clear();
-    let front = read_front(text, place, tokens)?;
+    let front = read_front(text, place.min(text.len()), tokens)?;
     if front.is_whole {
-        return Ok(RowFound::Row {
-            next: front.place,
-            blank_led: is_led_at(text, place),
-        });
+        return Ok(row_before(text, place, front.place));
     }
-    let mut reader = RowReader::new(text, front.place);
+    let mut at = front.place;
+    let mut inside = front.inside;
     loop {
-        match reader.next_token() {
-            Ok(Some(token)) => tokens.push(token.by_fields())?,
-            Ok(None) => {
-                return Ok(RowFound::Row {
-                    next: reader.place(),
-                    blank_led: is_led_at(text, place),
-                });
-            }
-            Err(_) => return Ok(end_or_broken(text, place)),
-        }
+        let Some(step) = next_step(text, at, inside) else {
+            return Ok(end_or_broken(text, place));
+        };
+        let Some(token) = step.found else {
+            return Ok(row_before(text, place, step.place));
+        };
+        tokens.push(token.by_fields())?;
+        at = step.place;
+        inside = step.inside;
+    }
+}
+
+/// Returns the row at a place. The next one begins at the other place.
+fn row_before(text: &[u8], place: usize, next: usize) -> RowFound
+    ensures { (spans : List TokenSpan) → IsRowAt text.now place spans next (is_led (drop place text.now)) → IsFoundAt text.now place spans result }
+{
+    RowFound::Row {
+        next,
+        blank_led: is_led_at(text, place),
     }
 }
 

@@ -1,4 +1,4 @@
-//! The fronts of rows: words and white space alone, found 64 octets at a time.
+//! The fronts of rows: words, white space and parentheses alone, found by one mask of 64 octets.
 ghost use Rattle.std.specs.Prelude.{◌≡◌, ◌≤◌, ◌<◌, ◌+◌, [], false, true, List, ℕ, length, map, not, drop, IfOk};
 ghost use Rattle.std.specs.List.{prefix_len};
 ghost use Rattle.std.specs.Simd.Lanes.{chunk, mask_l};
@@ -8,6 +8,7 @@ ghost use Rattle.dns_entry_scanner.specs.Octets.{is_in_word};
 ghost use Rattle.dns_entry_scanner.specs.RowFound.{IsRowAt};
 
 use crate::TokenSpan;
+use crate::head::{Head, head_of};
 use crate::plain_octets::WordOctets;
 use dns_name::OctetKind;
 use std::alloc::AllocError;
@@ -19,14 +20,40 @@ const WINDOW_LEN: usize = 64;
 /// How far a row was read.
 #[derive(Clone, Copy)]
 pub(crate) struct RowFront {
-    /// The place after all that was read, outside parentheses.
+    /// The place after all that was read.
     pub(crate) place: usize,
-    /// Whether that is the whole row with its line feed.
+    /// Whether that place is inside parentheses.
+    pub(crate) inside: bool,
+    /// Whether it is after the whole row, with its line feed.
     pub(crate) is_whole: bool,
 }
 
-/// Reads a row from the place on, as far as it is words without a backslash and white space, within 64 octets. Pushes its tokens.
-/// Most rows are whole then.
+impl RowFront {
+    /// Returns that a row was read up to a place, inside parentheses or outside.
+    fn part(place: usize, inside: bool) -> Self
+        ensures { result ≡ record { place = place; inside = inside; is_whole = false } }
+    {
+        RowFront {
+            place,
+            inside,
+            is_whole: false,
+        }
+    }
+
+    /// Returns that the whole row was read. The next one begins at the place.
+    fn whole(place: usize) -> Self
+        ensures { result ≡ record { place = place; inside = false; is_whole = true } }
+    {
+        RowFront {
+            place,
+            inside: false,
+            is_whole: true,
+        }
+    }
+}
+
+/// Reads a row from the place on, as far as it is words without a backslash, white space and parentheses, within 64 octets. Pushes
+/// its tokens. Most rows are whole then.
 ///
 /// Fails if out of memory.
 pub(crate) fn read_front(
@@ -34,53 +61,43 @@ pub(crate) fn read_front(
     place: usize,
     tokens: &mut Vec<TokenSpan>,
 ) -> Result<RowFront, AllocError>
-    requires { tokens.old.items ≡ [] }
-    ensures begun { IfOk result (λ front. front.is_whole ≡ false → BegunRow text.now place tokens.new.items false (drop front.place text.now)) }
-    ensures whole { IfOk result (λ front. front.is_whole ≡ true → IsRowAt text.now place tokens.new.items front.place (is_led (drop place text.now))) }
+    requires { place ≤ length text.now }
+    ensures begun { IfOk result (λ front. front.is_whole ≡ false → (start : ℕ) → BegunRow text.now start tokens.old.items false place
+        → BegunRow text.now start tokens.new.items front.inside front.place) }
+    ensures whole { IfOk result (λ front. front.is_whole ≡ true → (start : ℕ) → BegunRow text.now start tokens.old.items false place
+        → IsRowAt text.now start tokens.new.items front.place (is_led (drop start text.now))) }
+    ensures within { IfOk result (λ front. front.place ≤ length text.now) }
 {
     if text.len() < WINDOW_LEN || text.len() - WINDOW_LEN < place {
-        return Ok(RowFront {
-            place,
-            is_whole: false,
-        });
+        return Ok(RowFront::part(place, false));
     }
     let ends = word_ends(text, place);
     let mut at = 0;
+    let mut inside = false;
     while at < WINDOW_LEN {
-        match text[place + at] {
-            b' ' => at += 1,
-            b'\t' => at += 1,
-            b'\r' => at += 1,
-            b'\n' => {
-                return Ok(RowFront {
-                    place: place + at + 1,
-                    is_whole: true,
-                });
+        match head_of(inside, text[place + at]) {
+            Head::Go(behind) => {
+                inside = behind;
+                at += 1;
             }
-            _ => {
+            Head::Feed => return Ok(RowFront::whole(place + at + 1)),
+            Head::Word => {
                 let len = word_len(ends, at);
                 let behind = text[place + at + len];
                 if len == 0 || behind == b'\\' {
                     break;
                 }
-                tokens.push(TokenSpan {
-                    start: place + at,
-                    len,
-                    quoted: false,
-                    has_escape: false,
-                })?;
+                tokens.push(TokenSpan::word(place + at, len))?;
                 at += len;
                 // Most words have one space behind them.
                 if behind == b' ' {
                     at += 1;
                 }
             }
+            Head::Comment | Head::Quote | Head::Refused => break,
         }
     }
-    Ok(RowFront {
-        place: place + at,
-        is_whole: false,
-    })
+    Ok(RowFront::part(place + at, inside))
 }
 
 /// Returns the length of the word that begins with the octet at the index, by the mask of 64 octets that are in no word. Returns 0

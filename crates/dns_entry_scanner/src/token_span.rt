@@ -1,5 +1,5 @@
 //! The places of tokens in a text.
-ghost use Rattle.std.specs.Prelude.{◌≡◌};
+ghost use Rattle.std.specs.Prelude.{◌≡◌, false};
 
 /// The place of a token in a text. The quotes of a quoted token are not part of it.
 #[derive(Clone, Copy, Debug)]
@@ -39,6 +39,19 @@ impl TokenSpan {
         ensures { result ≡ is_marked self.now }
     {
         self.has_escape
+    }
+
+    /// Returns the place of a word without a backslash.
+    #[inline(always)]
+    pub(crate) fn word(start: usize, len: usize) -> Self
+        ensures { result ≡ record { start = start; len = len; quoted = false; has_escape = false } }
+    {
+        TokenSpan {
+            start,
+            len,
+            quoted: false,
+            has_escape: false,
+        }
     }
 
     /// Returns the same, built from its fields. A push then writes the fields alone; a copy of the whole would include

@@ -1,5 +1,5 @@
 -- Fields that are scanned, and appended to octets.
-use Rattle.std.proofs.Common.{◌≡◌, ◌<◌, ◌≤◌, ◌++◌, ◌∙◌, ◌∷◌, [], ℕ, List, length, ap, refl, sym, append_assoc, length-append, arith, inl, inr, subst}
+use Rattle.std.proofs.Common.{◌≡◌, ◌≤◌, ◌++◌, ◌∙◌, [], ℕ, List, length, ap, refl, sym, length-append, arith, inl, inr, subst}
 use Rattle.std.specs.Prelude.{Bool, false, None, Result, Ok, Err, IfErr, OnOk}
 use Rattle.std.specs.Str.{chars}
 use Rattle.std.proofs.lemmas.List.{nil_from_length}

@@ -2,7 +2,6 @@ pub mod RowGaps
 pub mod RowParts
 pub mod RewrittenParts
 pub mod RewrittenSteps
-pub mod GapEnds
 pub mod RowGoing
 pub mod RowTypes
 pub mod ScannedOnce

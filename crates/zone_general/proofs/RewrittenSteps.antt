@@ -1,6 +1,5 @@
 -- Rewriting a row part by part.
-use Rattle.std.proofs.Common.{◌≡◌, ◌⊎◌, ◌+◌, ◌-◌, ◌*◌, ◌<◌, ◌≤◌, ℕ, zero, suc, Bool, true, false, List, [], ◌∷◌, ◌++◌, length, take, drop, if◌then◌else◌, Some, None, inl, inr, refl, sym, ◌∙◌, ap, subst, arith, append_assoc, append-nil, length-append, length-drop}
-use Rattle.std.specs.Prelude.{slice_get}
+use Rattle.std.proofs.Common.{◌≡◌, ◌⊎◌, ◌+◌, ◌-◌, ◌*◌, ◌<◌, ◌≤◌, ℕ, Bool, true, false, List, [], ◌∷◌, ◌++◌, length, take, drop, if◌then◌else◌, Some, None, inl, inr, refl, sym, ◌∙◌, ap, subst, arith, append_assoc, append-nil, length-append, length-drop}
 use Rattle.std.proofs.lemmas.Bool.{cases_order, eq-eqb, le-ltb, lt-ltb, ne_eqb}
 use Rattle.std.proofs.lemmas.List.{drop-drop, length-map, take-append-drop}
 use Rattle.std.proofs.lemmas.List.Concat.{flat_map-append}
@@ -12,7 +11,7 @@ use Rattle.dns_entry_scanner.specs.TokenEnd.{between}
 use Rattle.dns_entry_scanner.proofs.Steps.{one_next}
 use Rattle.zone_general.specs.Parts.{AreParts, Part, part_octets, row_octets, token_octets, tokens_of}
 use Rattle.zone_general.specs.Rewritten.{data_octets, gaps_of, kept, spaced}
-use Rattle.zone_general.specs.WrittenPart.{HasNext, written_none, written_part}
+use Rattle.zone_general.specs.WrittenPart.{written_none, written_part}
 use Rattle.zone_general.proofs.RowParts.{cut_row, parts_end, parts_next}
 
 -- what is written for tokens of data so far
@@ -112,12 +111,6 @@ written_more {place} {word} {text} {parts} {new} part (with_type from) =
     })
 written_more {place} {word} {text} {parts} {new} part (before few is) =
     more_before place word text parts new part few is (cases_order (length parts) place)
-
--- no token is behind the last one
-no_token : (tokens : List Token) (index : ℕ) (found : Token) → slice_get tokens index ≡ Some found → length tokens ≤ index → ⊥
-no_token [] index found is all = cc
-no_token (token ∷ tokens) zero found is all = omega (arith, all)
-no_token (token ∷ tokens) (suc index) found is all = no_token tokens index found is (omega (arith, all))
 
 -- The row so far: the parts that were gone over, those that are left, and what was appended.
 pub record Gone (octets rest : List ℕ) (tokens : List Token) (place : ℕ) (word text : List ℕ) (inside : Bool) (left : List ℕ) (index : ℕ)
@@ -252,29 +245,6 @@ module _ {octets rest left old now : List ℕ} {tokens : List Token} {place inde
   pub gone_next : {found : Token} {out : Bool} {behind : List ℕ} → Next inside left (Some found) out behind
       → GoneNext octets rest tokens place word text left index old now found out behind
   gone_next {found} {out} {behind} next = next_at gone.others refl found out behind next
-
-  -- the token at the index is the next one
-  found_at : (parts others : List Part) (part : Part) (found : Token) → slice_get (tokens_of (parts ++ part ∷ others)) (length parts) ≡ Some found
-      → part.token ≡ found
-  found_at [] others part found is = cc
-  found_at (first ∷ parts) others part found is = found_at parts others part found is
-
-  has_at : (others : List Part) → gone.others ≡ others → (found : Token) → slice_get tokens index ≡ Some found → HasNext inside left found
-  has_at [] none found is =
-      let all : length tokens ≡ length gone.front =
-      ap (length {A = Token}) (sym gone.tokens_are) ∙ length-map (gone.front ++ gone.others) (λ (p : Part). p.token)
-      ∙ length-append gone.front gone.others ∙ ap (λ (l : List Part). length gone.front + length l) none ∙ omega arith in
-      absurd (no_token tokens index found is (omega (arith, all, gone.count)))
-  has_at (part ∷ others) some found is =
-      let first = part_at part others some in
-      let token : part.token ≡ found =
-      found_at gone.front others part found
-      (ap (λ (l : List Part). slice_get (tokens_of (gone.front ++ l)) (length gone.front)) (sym some)
-      ∙ ap (λ (l : List Token). slice_get l (length gone.front)) gone.tokens_are ∙ ap (slice_get tokens) (sym gone.count) ∙ is) in
-      subst (HasNext inside left) token (record { out = first.out; rest = row_octets others gone.last ++ rest; next = first.next })
-
-  pub has_next : (found : Token) → slice_get tokens index ≡ Some found → HasNext inside left found
-  has_next found is = has_at gone.others refl found is
 
 -- The octets of a row with another word for its type and another text for its data.
 pub record RewrittenTo (octets : List ℕ) (tokens : List Token) (place : ℕ) (word text new : List ℕ) : Type 0 where

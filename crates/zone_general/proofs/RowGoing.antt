@@ -1,15 +1,20 @@
 -- A place in the row that was found, and what was appended for the parts before it.
-use Rattle.std.proofs.Common.{◌≡◌, ◌+◌, ◌-◌, ◌<◌, ◌≤◌, ℕ, Bool, false, List, [], ◌++◌, get_or, length, take, drop, sym, ◌∙◌, ap, subst, arith, append_assoc, append-nil, length-append, length-drop}
-use Rattle.std.proofs.lemmas.List.{length-map}
+use Rattle.std.proofs.Common.{◌≡◌, ◌+◌, ◌-◌, ◌*◌, ◌<◌, ◌≤◌, ℕ, zero, suc, Bool, true, false, List, [], ◌∷◌, ◌++◌, if◌then◌else◌, get_or, length, min, take, drop, refl, sym, ◌∙◌, ap, subst, arith, append_assoc, append-nil, length-append, length-drop}
+use Rattle.std.proofs.lemmas.List.{drop_more, length-map}
+use Rattle.std.proofs.Math.Seq.{take-append_seam}
+use Rattle.dns_entry_scanner.specs.Gap.{end_in, first_of}
+use Rattle.dns_entry_scanner.specs.RowFound.{AreNext}
+use Rattle.dns_entry_scanner.specs.RowFound.AreNext.{ended, token}
+use Rattle.dns_entry_scanner.proofs.Rows.{next_shorter}
 use Rattle.dns_entry_scanner.specs.TokenEnd.{between}
 use Rattle.dns_entry_scanner.specs.TokenSpan.{token_in}
 use Rattle.dns_entry_scanner.specs.declared.token_span.TokenSpan.{TokenSpan}
 use Rattle.zone_general.specs.Parts.{token_octets}
 use Rattle.zone_general.specs.Seen.{IsFound, RewritesAt, octets_in, tokens_in}
-use Rattle.zone_general.specs.WrittenPart.{GoesOver, HasNext, written_none, written_part}
+use Rattle.zone_general.specs.WrittenPart.{GoesOver, place_at, written_none, written_part}
 use Rattle.zone_general.specs.declared.found_row.FoundRow.{FoundRow}
-use Rattle.zone_general.proofs.RewrittenSteps.{Gone, gone_all, gone_next, gone_none, has_next, last_at, same_front, split_between, written_before}
-use Rattle.zone_general.proofs.RowTypes.{token_at}
+use Rattle.zone_general.proofs.RewrittenSteps.{Gone, gone_all, gone_next, gone_none, last_at, length-token_octets, same_front, split_between, written_before}
+use Rattle.zone_general.proofs.RowParts.{cut_token}
 
 -- The place is after the parts that were gone over.
 pub record Going (row : FoundRow) (place : ℕ) (word text : List ℕ) (inside : Bool) (behind index : ℕ) (old now : List ℕ) : Type 0 where
@@ -26,11 +31,6 @@ module _ {row : FoundRow} {place : ℕ} {word text : List ℕ} {inside : Bool} {
     (going : Going row place word text inside behind index old now) where
   count : length (tokens_in row) ≡ length row.spans.now
   count = length-map row.spans.now (λ (s : TokenSpan). token_in row.text.now s)
-
-  -- the next token is that of the span
-  pub next_token : (default : TokenSpan) → index < length row.spans.now
-      → HasNext inside (drop behind row.text.now) (token_in row.text.now (get_or row.spans.now index default))
-  next_token default within = has_next going.gone _ (token_at row.text.now row.spans.now index default within)
 
   -- one more token
   pub going_on : {gap : List ℕ} {out : Bool} {end : ℕ} (over : GoesOver inside (drop behind row.text.now) gap out (drop end row.text.now))
@@ -102,6 +102,132 @@ before_all {row} {place} {word} {text} {inside} {behind} {index} {old} so whole 
     let same : index ≡ place = omega (arith, so.few, whole) in
     subst (λ l. Going row place word text inside behind place old l) (sym is)
     (subst (λ n. Going row place word text inside behind n old (old ++ between row.place behind row.text.now)) same so.going)
+
+-- any span
+pub no_span : TokenSpan
+no_span = record { start = 0; len = 0; quoted = false; has_escape = false }
+
+-- what is left of a text that goes on with tokens
+some_left : {text : List ℕ} {inside : Bool} {place next : ℕ} {spans : List TokenSpan} → AreNext text inside place spans next
+    → 0 < length (drop place text)
+some_left (ended ends) = omega (arith, next_shorter ends)
+some_left (token first others) = omega (arith, next_shorter first)
+
+-- The token of the first span, and the gap before it from a place on.
+pub record FirstSpan (text : List ℕ) (inside : Bool) (behind : ℕ) (span : TokenSpan) (others : List TokenSpan) (next : ℕ) : Type 0 where
+  pub out : Bool
+  pub over : GoesOver inside (drop behind text) (between behind (first_of span) text) out (drop (end_in text span) text)
+  pub token_is : over.token ≡ token_in text span
+  pub placed : AreNext text out (end_in text span) others next
+  pub order : behind ≤ first_of span
+  pub within : first_of span ≤ length text
+  pub ends : end_in text span ≤ length text
+
+-- where the token begins
+first_at : (quoted : Bool) (start len behind gap size : ℕ) → start < size
+    → size - behind ≡ gap + (len + 2 * (if quoted then 1 else 0) + (size - (start + len + (if quoted then 1 else 0))))
+    → start + len + (if quoted then 1 else 0) < size → behind < size → (if quoted then start - 1 else start) ≡ behind + gap
+first_at true start len behind gap size here all ends below = omega (arith, here, all, ends, below)
+first_at false start len behind gap size here all ends below = omega (arith, here, all, ends, below)
+
+pub first_span : {text : List ℕ} {inside : Bool} {behind next : ℕ} {span : TokenSpan} {others : List TokenSpan}
+    → AreNext text inside behind (span ∷ others) next → FirstSpan text inside behind span others next
+first_span {text} {inside} {behind} {next} {span} {others} (token {out = out} first more) =
+    let found = token_in text span in
+    let cut = cut_token first in
+    let rest = drop (end_in text span) text in
+    let some : end_in text span < length text = omega (arith, some_left more, length-drop (end_in text span) text) in
+    let start : min span.start (length text) ≡ span.start = omega (arith, some) in
+    let here : span.start < length text = omega (arith, some, start) in
+    let end : end_in text span ≡ span.start + length found.text + (if span.quoted then 1 else 0) =
+    ap (λ n. n + length found.text + (if span.quoted then 1 else 0)) start in
+    let below : behind < length text = omega (arith, next_shorter first, length-drop behind text) in
+    let size : length text - behind ≡ length cut.gap + (length found.text + 2 * (if span.quoted then 1 else 0) + (length text - (span.start + length found.text + (if span.quoted then 1 else 0)))) =
+    sym (length-drop behind text) ∙ ap (length {A = ℕ}) cut.whole ∙ length-append cut.gap (token_octets found ++ rest)
+    ∙ ap (λ n. length cut.gap + n) (length-append (token_octets found) rest
+    ∙ ap (λ n. n + length rest) (length-token_octets found)
+    ∙ ap (λ n. (length found.text + 2 * (if span.quoted then 1 else 0)) + n) (length-drop (end_in text span) text ∙ ap (λ n. length text - n) end)) in
+    let first_is : first_of span ≡ behind + length cut.gap =
+    first_at span.quoted span.start (length found.text) behind (length cut.gap) (length text) here size (omega (arith, some, end)) below in
+    let long : first_of span - behind ≡ length cut.gap = omega (arith, first_is) in
+    let gap_is : cut.gap ≡ between behind (first_of span) text =
+    sym (take-append_seam cut.gap (token_octets found ++ rest)) ∙ ap (take (length cut.gap)) (sym cut.whole)
+    ∙ ap (λ n. take n (drop behind text)) (sym long) in record {
+      out = out;
+      over = record {
+        token = found;
+        next = first;
+        whole = cut.whole ∙ ap (λ l. l ++ (token_octets found ++ rest)) gap_is;
+      };
+      token_is = refl;
+      placed = more;
+      order = omega (arith, first_is);
+      within = omega (arith, first_is, size, below);
+      ends = omega (arith, some);
+    }
+
+-- The place is behind the tokens before the index, and those from it on are next.
+pub record Reached (row : FoundRow) (place : ℕ) (word text : List ℕ) (behind index : ℕ) (old now : List ℕ) : Type 0 where
+  pub inside : Bool
+  pub going : Going row place word text inside behind index old now
+  pub placed : AreNext row.text.now inside behind (drop index row.spans.now) row.next
+
+module _ {row : FoundRow} {place : ℕ} {word text : List ℕ} {behind index : ℕ} {old now : List ℕ}
+    (so : Reached row place word text behind index old now) (default : TokenSpan) (less : index < length row.spans.now) where
+  span_here : drop index row.spans.now ≡ get_or row.spans.now index default ∷ drop (index + 1) row.spans.now
+  span_here = drop_more row.spans.now index default less
+
+  here : FirstSpan row.text.now so.inside behind (get_or row.spans.now index default) (drop (index + 1) row.spans.now) row.next
+  here = first_span (subst (λ (l : List TokenSpan). AreNext row.text.now so.inside behind l row.next) span_here so.placed)
+
+  -- the gap before it
+  pub gap_order : (first : ℕ) → first ≡ first_of (get_or row.spans.now index default) → behind ≤ first
+  gap_order first is = omega (arith, is, here.order)
+
+  pub gap_within : (first : ℕ) → first ≡ first_of (get_or row.spans.now index default) → first ≤ length row.text.now
+  gap_within first is = omega (arith, is, here.within)
+
+  -- one more token
+  pub reached_on : (gap after : List ℕ) → gap ≡ between behind (first_of (get_or row.spans.now index default)) row.text.now
+      → ((token : List ℕ) → after ≡ now ++ written_part index place word text gap token)
+      → Reached row place word text (end_in row.text.now (get_or row.spans.now index default)) (index + 1) old after
+  reached_on gap after gap_is is = record {
+    inside = here.out;
+    going =
+        going_on so.going here.over here.ends after
+        (is (token_octets here.over.token) ∙ ap (λ l. now ++ written_part index place word text l (token_octets here.over.token)) gap_is);
+    placed = here.placed;
+  }
+
+-- the same before the type
+pub record ReachedBefore (row : FoundRow) (place : ℕ) (word text : List ℕ) (behind index : ℕ) (old : List ℕ) : Type 0 where
+  pub inside : Bool
+  pub before : Before row place word text inside behind index old
+  pub placed : AreNext row.text.now inside behind (drop index row.spans.now) row.next
+
+pub place_next : (text : List ℕ) (place : ℕ) (spans : List TokenSpan) (index : ℕ) (default : TokenSpan) → index < length spans
+    → end_in text (get_or spans index default) ≡ place_at text place spans (suc index)
+place_next text place [] index default less = absurd (omega (arith, less))
+place_next text place (span ∷ spans) zero default less = refl
+place_next text place (span ∷ spans) (suc index) default less = place_next text (end_in text span) spans index default (omega (arith, less))
+
+pub reached_before : (row : FoundRow) (place : ℕ) (word text old : List ℕ) → IsFound row → TokenSpan → (index : ℕ) → index ≤ place
+    → index ≤ length row.spans.now → ReachedBefore row place word text (place_at row.text.now row.place row.spans.now index) index old
+reached_before row place word text old found default zero few within =
+    record { inside = false; before = before_none place word text old found; placed = found.placed }
+reached_before row place word text old found default (suc index) few within =
+    let so = reached_before row place word text old found default index (omega (arith, few)) (omega (arith, within)) in
+    let at = first_span (subst (λ (l : List TokenSpan). AreNext row.text.now so.inside (place_at row.text.now row.place row.spans.now index) l row.next)
+    (drop_more row.spans.now index default (omega (arith, within))) so.placed) in
+    let next : index + 1 ≡ suc index = omega arith in
+    subst (λ n. ReachedBefore row place word text n (suc index) old) (place_next row.text.now row.place row.spans.now index default (omega (arith, within)))
+    (subst (λ n. ReachedBefore row place word text (end_in row.text.now (get_or row.spans.now index default)) n old) next
+    (record { inside = at.out; before = before_on so.before (omega (arith, few)) at.over at.ends; placed = at.placed }))
+
+-- at the type
+pub reached_type : {row : FoundRow} {place : ℕ} {word text old : List ℕ} {behind : ℕ} → ReachedBefore row place word text behind place old
+    → (now : List ℕ) → now ≡ old ++ between row.place behind row.text.now → Reached row place word text behind place old now
+reached_type so now is = record { inside = so.inside; going = before_all so.before (omega arith) now is; placed = so.placed }
 
 -- at the end of the row
 pub record Ending (row : FoundRow) (place : ℕ) (word text : List ℕ) (behind : ℕ) (old now : List ℕ) : Type 0 where

@@ -1,8 +1,9 @@
 -- A token of a row that is rewritten. Only contracts inside the crate name it.
-use Rattle.std.specs.Prelude.{◌≡◌, ◌+◌, ◌==◌, ℕ, Bool, List, [], ◌∷◌, ◌++◌, Option, Some, None, nat_lt, if◌then◌else◌}
+use Rattle.std.specs.Prelude.{◌≡◌, ◌+◌, ◌==◌, ℕ, zero, suc, Bool, List, [], ◌∷◌, ◌++◌, Some, nat_lt, if◌then◌else◌}
 use Rattle.dns_scan.specs.Token.{Token}
-use Rattle.dns_text.specs.Tokens.{Head, Next, head_of}
-use Rattle.dns_text.specs.Tokens.Head.{Go, Comment}
+use Rattle.dns_text.specs.Tokens.{Next}
+use Rattle.dns_entry_scanner.specs.Gap.{end_in}
+use Rattle.dns_entry_scanner.specs.declared.token_span.TokenSpan.{TokenSpan}
 use Rattle.zone_general.specs.Parts.{token_octets}
 use Rattle.zone_general.specs.Rewritten.{kept, spaced}
 
@@ -12,27 +13,11 @@ pub record GoesOver (inside : Bool) (left gap : List ℕ) (out : Bool) (rest : L
   pub next : Next inside left (Some token) out rest
   pub whole : left ≡ gap ++ (token_octets token ++ rest)
 
--- the token is the next one
-pub record HasNext (inside : Bool) (left : List ℕ) (token : Token) : Type 0 where
-  pub out : Bool
-  pub rest : List ℕ
-  pub next : Next inside left (Some token) out rest
-
--- the next token of the first place is that of the second
-abbrev pub NextAlike : Bool → List ℕ → Bool → List ℕ → Type 0
-NextAlike inside text inside' text' =
-    (token : Token) (out : Bool) (rest : List ℕ) → Next inside text (Some token) out rest → Next inside' text' (Some token) out rest
-
--- whether what follows is inside parentheses, if the octet is white space or a parenthesis
-abbrev pub side_of : Head → Option Bool
-side_of (Go behind) = Some behind
-side_of head = None
-
--- no white space, parenthesis or comment follows
-abbrev pub EndsGap : Bool → List ℕ → Type 0
-EndsGap inside text =
-    (octet : ℕ) (rest : List ℕ) → text ≡ octet ∷ rest
-    → ((behind : Bool) → head_of inside octet ≡ Go behind → ⊥) × (head_of inside octet ≡ Comment → ⊥)
+-- the place behind the tokens before the index, or that at which the row begins
+abbrev pub place_at : List ℕ → ℕ → List TokenSpan → ℕ → ℕ
+place_at text place spans zero = place
+place_at text place [] (suc index) = place
+place_at text place (span ∷ spans) (suc index) = place_at text (end_in text span) spans index
 
 -- What is written for the token at the index of a row whose type is at a place, and for the gap before it: the same before the type;
 -- the word; the text for the first token of data; and for the others what stays of the gap.

@@ -1,14 +1,14 @@
 //! Rows with other data.
-ghost use Rattle.std.specs.Prelude.{◌≡◌, ◌<◌, ◌≤◌, ◌++◌, ℕ, List, drop, length, OnOk};
+ghost use Rattle.std.specs.Prelude.{◌≡◌, ◌<◌, ◌≤◌, ◌++◌, ℕ, List, length, OnOk};
 ghost use Rattle.std.specs.List.{list_all};
-ghost use Rattle.dns_entry_scanner.specs.TokenSpan.{token_in};
-ghost use Rattle.dns_text.specs.Tokens.{head_of, is_gap};
+ghost use Rattle.dns_entry_scanner.specs.Gap.{end_in, first_of};
+ghost use Rattle.dns_text.specs.Tokens.{is_gap};
 ghost use Rattle.zone_general.specs.Rewritten.{kept};
 ghost use Rattle.zone_general.specs.Seen.{IsFound, RewritesAt};
-ghost use Rattle.zone_general.specs.WrittenPart.{EndsGap, GoesOver, HasNext, NextAlike, side_of, written_none, written_part};
+ghost use Rattle.zone_general.specs.WrittenPart.{place_at, written_none, written_part};
 
 use crate::found_row::FoundRow;
-use dns_zonefile::{TokenSpan, line_end};
+use dns_zonefile::TokenSpan;
 use std::alloc::AllocError;
 
 /// Appends the row with another word for its type and other data. The data's text takes the place of the first token of data,
@@ -26,96 +26,42 @@ pub fn append_rewritten(
     requires within { type_index < length row.spans.now }
     ensures { OnOk result ((new : List ℕ) × RewritesAt row.entry type_index word.now data.now new × (out.new.items ≡ out.old.items ++ new)) }
 {
-    let mut behind = row.place;
-    let mut inside = false;
-    for index in 0..type_index {
-        let part = next_part(row.text, behind, inside, &row.spans[index]);
-        behind = part.behind;
-        inside = part.inside;
-    }
+    let mut behind = place_before(row, type_index);
     // The row is the same up to here.
     out.extend_from_slice(&row.text[row.place..behind])?;
     for index in type_index..row.spans.len() {
-        let part = next_part(row.text, behind, inside, &row.spans[index]);
-        append_part(index, type_index, word, data, part.gap, out)?;
-        behind = part.behind;
-        inside = part.inside;
+        let span = &row.spans[index];
+        let gap = &row.text[behind..first_place(span)];
+        append_part(index, type_index, word, data, gap, out)?;
+        behind = end_place(row.text, span);
     }
     append_missing(row.spans.len(), type_index, data, out)?;
     out.extend_from_slice(&row.text[behind..row.next])
 }
 
-/// What is before the next token of a row, and where that token ends.
-#[derive(Clone, Copy)]
-struct NextPart<'t> {
-    gap: &'t [u8],
-    /// The place behind the token.
-    behind: usize,
-    /// Whether that place is inside parentheses.
-    inside: bool,
+/// Returns the place at which the gap before the token at the index begins: behind the token before it, or where the row begins.
+fn place_before(row: FoundRow<'_>, index: usize) -> usize
+    requires { index < length row.spans.now }
+    ensures { result ≡ place_at row.entry.text.now row.entry.place row.entry.spans.now index }
+{
+    if index == 0 {
+        return row.place;
+    }
+    end_place(row.text, &row.spans[index - 1])
 }
 
-/// Returns what is before the token of the span, which is the next one from a place inside parentheses or outside, and where it
-/// ends.
-fn next_part<'t>(text: &'t [u8], place: usize, inside: bool, span: &TokenSpan) -> NextPart<'t>
-    requires next { HasNext inside (drop place text.now) (token_in text.now span.now) }
-    requires within { place ≤ length text.now }
-    ensures over { GoesOver inside (drop place text.now) result.gap.now result.inside (drop result.behind text.now) }
-    ensures within { result.behind ≤ length text.now }
+/// Returns the place of the token's first octet, its opening quote if it is quoted.
+fn first_place(span: &TokenSpan) -> usize
+    ensures { result ≡ first_of span.now }
 {
-    let (start, inside) = gap_end(text, place, inside);
-    let behind = start + span.text(text).len() + 2 * usize::from(span.is_quoted());
-    NextPart {
-        gap: &text[place..start],
-        behind,
-        inside,
-    }
+    span.start().saturating_sub(usize::from(span.is_quoted()))
 }
 
-/// Returns the place behind white space, parentheses and comments, from a place inside parentheses or outside, and whether it
-/// is inside.
-fn gap_end(text: &[u8], place: usize, inside: bool) -> (usize, bool)
-    requires { place ≤ length text.now }
-    ensures next { NextAlike inside (drop place text.now) result.1 (drop result.0 text.now) }
-    ensures ends { EndsGap result.1 (drop result.0 text.now) }
-    ensures behind { place ≤ result.0 }
-    ensures within { result.0 ≤ length text.now }
+/// Returns the place behind the token, with its closing quote if it is quoted.
+fn end_place(text: &[u8], span: &TokenSpan) -> usize
+    ensures { result ≡ end_in text.now span.now }
 {
-    let mut at = place;
-    let mut now_inside = inside;
-    while at < text.len() {
-        match side_behind(text[at], now_inside) {
-            Some(behind) => {
-                now_inside = behind;
-                at += 1;
-            }
-            None => {
-                if text[at] != b';' {
-                    return (at, now_inside);
-                }
-                at = line_end(text, at + 1);
-            }
-        }
-    }
-    (at, now_inside)
-}
-
-/// Returns whether what follows the octet is inside parentheses, or None if the octet is no white space and no parenthesis. A
-/// line feed is white space inside parentheses.
-fn side_behind(octet: u8, inside: bool) -> Option<bool>
-    ensures { result ≡ side_of (head_of inside octet) }
-{
-    // Most of these octets are spaces and tabs.
-    if octet == b' ' || octet == b'\t' {
-        return Some(inside);
-    }
-    match octet {
-        b'\r' => Some(inside),
-        b'\n' if inside => Some(true),
-        b'(' if !inside => Some(true),
-        b')' if inside => Some(false),
-        _ => None,
-    }
+    span.start().min(text.len()) + span.text(text).len() + usize::from(span.is_quoted())
 }
 
 /// Appends what is written for the token at the index, and for the gap before it, where that is the type or behind it: the word,

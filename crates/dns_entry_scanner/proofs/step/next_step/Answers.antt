@@ -18,6 +18,7 @@ loop-at-preserved c = record {
 pub returns-in-Feed-clause-found : goal.returns-in-Feed-clause-found
 returns-in-Feed-clause-found c = record {
   next = next_feed c.args.text.now c.loop-at.at (omega arith) c.loop-at.invariant.same c.in-Feed.ensures;
+  placed = tt;
   marked = tt;
   within = omega arith;
 }

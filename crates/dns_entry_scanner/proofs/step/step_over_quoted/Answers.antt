@@ -1,6 +1,6 @@
-use Rattle.std.proofs.Common.{length, ℕ, sym, ap, ◌∙◌, arith}
+use Rattle.std.proofs.Common.{◌+◌, length, ℕ, sym, ap, ◌∙◌, arith}
 use Rattle.std.proofs.lemmas.List.{length-drop, take_rest}
-use Rattle.dns_entry_scanner.proofs.Steps.{next_quoted, none_cut, none_given, none_open}
+use Rattle.dns_entry_scanner.proofs.Steps.{next_quoted, step_end, none_cut, none_given, none_open}
 use Rattle.dns_entry_scanner.proofs.step.step_over_quoted.Goals as goal
 
 pub returns-in_err-mark-clause-none : goal.returns-in_err-mark-clause-none
@@ -23,6 +23,7 @@ returns-clause-found c =
     record {
       next = next_quoted c.args.inside text c.args.place _ _ _ c.requires.within c.requires.quote c.token_end-end.ensures.run at_mark
           c.if-mark-ne34.false;
+      placed = ap (λ (n : ℕ). n + 1) (step_end text (c.args.place + 1) c.token_end-end.result.place c.token_end-end.ensures.behind c.token_end-end.ensures.within);
       marked = c.token_end-end.ensures.run.marked;
       within = omega (arith, ap (length {A = ℕ}) at_mark, length-drop c.token_end-end.result.place text);
     }
