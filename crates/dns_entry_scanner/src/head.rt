@@ -1,5 +1,6 @@
 //! What an octet means between two tokens.
-ghost use Rattle.std.specs.Prelude.{◌≡◌};
+ghost use Rattle.std.specs.Prelude.{◌≡◌, Bool, IsTrue};
+ghost use Rattle.dns_text.specs.Tokens.Head.{Go};
 ghost use Rattle.dns_text.specs.Tokens.{head_of as spec_head_of};
 ghost use Rattle.dns_entry_scanner.specs.Head.{head_in};
 
@@ -21,15 +22,15 @@ pub(crate) enum Head {
 pub(crate) fn head_of(inside: bool, octet: u8) -> Head
     ensures { spec_head_of inside octet ≡ head_in result }
 {
-    // Most octets here are a space, a letter or a digit.
-    if octet == b' ' {
+    // Most octets here are a space, a tab, a letter or a digit.
+    if octet == b' ' || octet == b'\t' {
         return Head::Go(inside);
     }
     if octet > b';' || octet.is_ascii_digit() {
         return Head::Word;
     }
     match octet {
-        b'\t' | b'\r' => Head::Go(inside),
+        b'\r' => Head::Go(inside),
         b'\n' => { if inside { Head::Go(true) } else { Head::Feed } }
         b'(' => {
             if inside {
@@ -49,4 +50,12 @@ pub(crate) fn head_of(inside: bool, octet: u8) -> Head
         b'"' => Head::Quote,
         _ => Head::Word,
     }
+}
+
+/// Returns whether the octet is a space or a tab. It means nothing between two tokens.
+#[inline(always)]
+pub(crate) fn is_space(octet: u8) -> bool
+    ensures { IsTrue result → (inside : Bool) → spec_head_of inside octet ≡ Go inside }
+{
+    octet == b' ' || octet == b'\t'
 }

@@ -8,7 +8,7 @@ ghost use Rattle.dns_entry_scanner.specs.Octets.{is_in_word};
 ghost use Rattle.dns_entry_scanner.specs.RowFound.{IsRowAt};
 
 use crate::TokenSpan;
-use crate::head::{Head, head_of};
+use crate::head::{Head, head_of, is_space};
 use crate::plain_octets::WordOctets;
 use dns_name::OctetKind;
 use std::alloc::AllocError;
@@ -75,26 +75,27 @@ pub(crate) fn read_front(
     let mut at = 0;
     let mut inside = false;
     while at < WINDOW_LEN {
-        match head_of(inside, text[place + at]) {
-            Head::Go(behind) => {
-                inside = behind;
+        let len = word_len(ends, at);
+        if len > 0 {
+            let behind = text[place + at + len];
+            if behind == b'\\' {
+                break;
+            }
+            tokens.push(TokenSpan::word(place + at, len))?;
+            at += len;
+            // Most words have one space behind them.
+            if is_space(behind) {
                 at += 1;
             }
-            Head::Feed => return Ok(RowFront::whole(place + at + 1)),
-            Head::Word => {
-                let len = word_len(ends, at);
-                let behind = text[place + at + len];
-                if len == 0 || behind == b'\\' {
-                    break;
-                }
-                tokens.push(TokenSpan::word(place + at, len))?;
-                at += len;
-                // Most words have one space behind them.
-                if behind == b' ' {
+        } else {
+            match head_of(inside, text[place + at]) {
+                Head::Go(behind) => {
+                    inside = behind;
                     at += 1;
                 }
+                Head::Feed => return Ok(RowFront::whole(place + at + 1)),
+                Head::Comment | Head::Quote | Head::Word | Head::Refused => break,
             }
-            Head::Comment | Head::Quote | Head::Refused => break,
         }
     }
     Ok(RowFront::part(place + at, inside))

@@ -22,7 +22,8 @@ pub(crate) struct Step {
 }
 
 /// Returns the next step of a row from a place inside or outside parentheses. Returns None if neither a token nor the
-/// end of the row follows.
+/// end of the row follows. It is called once per token, so it is inlined.
+#[inline(always)]
 pub(crate) fn next_step(text: &[u8], place: usize, inside: bool) -> Option<Step>
     requires { place ≤ length text.now }
     ensures found { IfSome result (λ step. StepsTo inside text.now place step) }
@@ -78,6 +79,7 @@ fn step_over_quoted(text: &[u8], place: usize, inside: bool) -> Option<Step>
 }
 
 /// Returns the step over the unquoted token at the place, or None if there is no symbol.
+#[inline(always)]
 fn step_over_word(text: &[u8], place: usize, inside: bool) -> Option<Step>
     requires within { place < length text.now }
     requires word { spec_head_of inside (slice_index text.now place) ≡ Word }

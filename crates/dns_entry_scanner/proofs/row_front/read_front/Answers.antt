@@ -13,8 +13,8 @@ use Rattle.dns_entry_scanner.proofs.row_front.read_front.Goals as goal
 pub loop-at-init : goal.loop-at-init
 loop-at-init c = record { within = omega arith; held = λ start held. front_none c.args.place held }
 
-pub loop-at-preserved-in-Go : goal.loop-at-preserved-in-Go
-loop-at-preserved-in-Go c = record {
+pub loop-at-preserved : goal.loop-at-preserved
+loop-at-preserved c = record {
   within = omega arith;
   held = λ start held. front_gap c.in-Go.behind c.args.place c.loop-at.at (omega arith) c.in-Go.ensures (c.loop-at.invariant.held start held);
 }
@@ -25,51 +25,57 @@ returns-in-Feed-clause-whole c =
     (sym c.whole.ensures)
     (front_feed (c.args.place + c.loop-at.at) (omega arith) c.in-Feed.ensures (c.loop-at.invariant.held start held))
 
-pub bounds-text-place-in-Word : goal.bounds-text-place-in-Word
-bounds-text-place-in-Word c =
+pub bounds-text-place : goal.bounds-text-place
+bounds-text-place c =
     let text = c.args.text.now in
     let less = c.word_len-len.ensures.within (chunk c.args.place 64 text) (length-chunk c.args.place 64 text (omega arith)) c.word_ends-ends.ensures in
     omega (arith, less)
 
-pub overflow_add-behind-in-Word : goal.overflow_add-behind-in-Word
-overflow_add-behind-in-Word c =
+pub overflow_add-behind-then-len-gt0 : goal.overflow_add-behind-then-len-gt0
+overflow_add-behind-then-len-gt0 c =
     let text = c.args.text.now in
     let less = c.word_len-len.ensures.within (chunk c.args.place 64 text) (length-chunk c.args.place 64 text (omega arith)) c.word_ends-ends.ensures in
     let below : c.args.place + c.loop-at.at + c.word_len-len.result < length text = omega (arith, less) in search rules
 
-pub overflow_add-at-in-Word : goal.overflow_add-at-in-Word
-overflow_add-at-in-Word c =
+pub overflow_add-at : goal.overflow_add-at
+overflow_add-at c =
     let text = c.args.text.now in
     let less = c.word_len-len.ensures.within (chunk c.args.place 64 text) (length-chunk c.args.place 64 text (omega arith)) c.word_ends-ends.ensures in
     omega (arith, less)
 
-pub loop-at-preserved : goal.loop-at-preserved
-loop-at-preserved c =
+pub overflow_add-at-then-is_space : goal.overflow_add-at-then-is_space
+overflow_add-at-then-is_space c =
+    let text = c.args.text.now in
+    let less = c.word_len-len.ensures.within (chunk c.args.place 64 text) (length-chunk c.args.place 64 text (omega arith)) c.word_ends-ends.ensures in
+    omega (arith, less)
+
+pub loop-at-preserved-else-is_space : goal.loop-at-preserved-else-is_space
+loop-at-preserved-else-is_space c =
     let text = c.args.text.now in
     let some : 0 < c.word_len-len.result = omega arith in
     let less = c.word_len-len.ensures.within (chunk c.args.place 64 text) (length-chunk c.args.place 64 text (omega arith)) c.word_ends-ends.ensures in
     let word =
     window text c.args.place c.loop-at.at c.word_len-len.result c.word_ends-ends.result (omega arith) c.word_ends-ends.ensures some
     c.word_len-len.ensures.len c.word_len-len.ensures.within in
-    let pushed = c.in_ok-push-in-Word.ensures.items ∙ ap (λ (s : TokenSpan). c.loop-at.tokens.items ++ s ∷ []) c.word.ensures in record {
+    let pushed = c.in_ok-push.ensures.items ∙ ap (λ (s : TokenSpan). c.loop-at.tokens.items ++ s ∷ []) c.word.ensures in record {
       within = omega (arith, less);
       held = λ start held. front_word c.args.place c.loop-at.at c.word_len-len.result (omega arith) word some c.if-behind-eq92.false
           (c.loop-at.invariant.held start held) pushed;
     }
 
-pub loop-at-preserved-then-behind-eq32 : goal.loop-at-preserved-then-behind-eq32
-loop-at-preserved-then-behind-eq32 c =
+pub loop-at-preserved-then-is_space : goal.loop-at-preserved-then-is_space
+loop-at-preserved-then-is_space c =
     let text = c.args.text.now in
     let some : 0 < c.word_len-len.result = omega arith in
     let less = c.word_len-len.ensures.within (chunk c.args.place 64 text) (length-chunk c.args.place 64 text (omega arith)) c.word_ends-ends.ensures in
     let word =
     window text c.args.place c.loop-at.at c.word_len-len.result c.word_ends-ends.result (omega arith) c.word_ends-ends.ensures some
     c.word_len-len.ensures.len c.word_len-len.ensures.within in
-    let pushed = c.in_ok-push-in-Word.ensures.items ∙ ap (λ (s : TokenSpan). c.loop-at.tokens.items ++ s ∷ []) c.word.ensures in
+    let pushed = c.in_ok-push.ensures.items ∙ ap (λ (s : TokenSpan). c.loop-at.tokens.items ++ s ∷ []) c.word.ensures in
     let behind : c.args.place + (c.loop-at.at + c.word_len-len.result) ≡ c.args.place + c.loop-at.at + c.word_len-len.result = omega arith in record {
       within = omega (arith, less);
       held = λ start held. front_gap c.loop-at.inside c.args.place (c.loop-at.at + c.word_len-len.result) (omega (arith, less))
-          (ap (λ n. head_of c.loop-at.inside (get_or text n 0)) behind ∙ ap (head_of c.loop-at.inside) c.if-behind-eq32.true)
+          (ap (λ n. head_of c.loop-at.inside (get_or text n 0)) behind ∙ c.is_space.ensures c.if-is_space.true c.loop-at.inside)
           (front_word c.args.place c.loop-at.at c.word_len-len.result (omega arith) word some c.if-behind-eq92.false
           (c.loop-at.invariant.held start held) pushed);
     }
