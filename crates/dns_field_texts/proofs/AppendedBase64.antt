@@ -1,11 +1,11 @@
 -- Octets in base 64: whole groups of characters, and what follows them.
-use Rattle.std.proofs.Common.{◌≡◌, ◌+◌, ◌*◌, ◌/◌, ◌%◌, ◌^◌, ◌<◌, ◌≤◌, ◌-◌, zero, suc, ℕ, true, List, [], ◌∷◌, ◌++◌, length, map, replicate, take, drop, get_or, refl, sym, ◌∙◌, ap, subst, arith, append_assoc, append-nil, length-append}
+use Rattle.std.proofs.Common.{◌≡◌, ◌+◌, ◌*◌, ◌/◌, ◌%◌, ◌^◌, ◌<◌, ◌≤◌, ◌-◌, zero, suc, ℕ, Bool, true, false, List, [], ◌∷◌, ◌++◌, length, map, replicate, take, drop, get_or, refl, sym, ◌∙◌, ap, subst, arith, append_assoc, append-nil, length-append}
 use Rattle.std.specs.List.{AllByRecursion, list_all}
 use Rattle.std.specs.Str.{chars}
 use Rattle.std.proofs.Math.Seq.{take-append_seam}
 use Rattle.std.proofs.lemmas.Bool.{and_parts}
 use Rattle.std.proofs.lemmas.Bool.Decides.{nat_tests}
-use Rattle.std.proofs.lemmas.List.{length-map, map-append, nil_from_length, take_all}
+use Rattle.std.proofs.lemmas.List.{length-map, length-replicate, map-append, nil_from_length, take_all}
 use Rattle.std.proofs.lemmas.Str.{chars-IsAscii}
 use Rattle.dns_label.specs.Octets.{AreOctets, IsOctet}
 use Rattle.dns_label.specs.Symbol.{is_plain}
@@ -21,7 +21,7 @@ use Rattle.dns_scan.proofs.Decoded.{all_bits-append, each_append, length-all_bit
 use Rattle.dns_scan.proofs.Encodings.{Ascii, is_ascii}
 use Rattle.dns_scan.proofs.Entries.{words_one}
 use Rattle.dns_field_texts.specs.Appended.{GoesOn}
-use Rattle.dns_field_texts.specs.AppendedBase64.{AppendsBase64, AppendsGroups, BeginsWithGroups, SpellsNoBase64}
+use Rattle.dns_field_texts.specs.AppendedBase64.{AppendsBase64, AppendsGroups, AppendsPadded, BeginsPadded, BeginsWithGroups, IsLastWord, SpellsNoBase64}
 
 abbrev all_digits : List ℕ → List ℕ
 all_digits characters = all_bits 6 (map (digit SixtyFour) characters)
@@ -352,3 +352,181 @@ three_pushed old octets is one two three =
     let z = get_or octets 2 0 in
     three ∙ ap (λ (l : List ℕ). l ++ z ∷ []) (two ∙ ap (λ (l : List ℕ). l ++ y ∷ []) one ∙ append_assoc old (x ∷ []) (y ∷ []))
     ∙ append_assoc old (x ∷ y ∷ []) (z ∷ []) ∙ ap (λ (l : List ℕ). old ++ l) (sym (three_of octets is))
+
+-- a group with padding
+two_cut : (a b x : ℕ) → b < 64 → x ≡ a * 4 + b / 16 → all_bits 6 (a ∷ b ∷ []) ≡ all_bits 8 (x ∷ []) ++ bits 4 (b % 16)
+two_cut a b x small is =
+    let same : a * 2 ^ 6 + b ≡ x * 2 ^ 4 + b % 16 = omega (arith, is) in
+    ap (λ (l : List ℕ). bits 6 a ++ l) (append-nil (bits 6 b)) ∙ sym (bits_join 6 6 a b small) ∙ ap (bits 12) same
+    ∙ bits_join 8 4 x (b % 16) (omega arith) ∙ ap (λ (l : List ℕ). l ++ bits 4 (b % 16)) (sym (append-nil (bits 8 x)))
+
+three_cut : (a b c x y : ℕ) → b < 64 → c < 64 → x ≡ a * 4 + b / 16 → y ≡ b % 16 * 16 + c / 4
+    → all_bits 6 (a ∷ b ∷ c ∷ []) ≡ all_bits 8 (x ∷ y ∷ []) ++ bits 2 (c % 4)
+three_cut a b c x y small less is also =
+    let same : a * 2 ^ 12 + (b * 2 ^ 6 + c) ≡ x * 2 ^ 10 + (y * 2 ^ 2 + c % 4) = omega (arith, is, also) in
+    let first : all_bits 6 (a ∷ b ∷ c ∷ []) ≡ bits 18 (a * 2 ^ 12 + (b * 2 ^ 6 + c)) =
+    sym (bits_join 6 12 a (b * 2 ^ 6 + c) (omega arith)
+    ∙ ap (λ (l : List ℕ). bits 6 a ++ l) (bits_join 6 6 b c less ∙ ap (λ (l : List ℕ). bits 6 b ++ l) (sym (append-nil (bits 6 c))))) in
+    first ∙ ap (bits 18) same
+    ∙ bits_join 8 10 x (y * 2 ^ 2 + c % 4) (omega (arith, also))
+    ∙ ap (λ (l : List ℕ). bits 8 x ++ l) (bits_join 8 2 y (c % 4) (omega arith))
+    ∙ sym (append_assoc (bits 8 x) (bits 8 y) (bits 2 (c % 4)))
+    ∙ ap (λ (l : List ℕ). (bits 8 x ++ l) ++ bits 2 (c % 4)) (sym (append-nil (bits 8 y)))
+
+pub two_digits : (first second x : ℕ) → digit_64 first < 64 → digit_64 second < 64 → x ≡ digit_64 first * 4 + digit_64 second / 16
+    → Groups SixtyFour (first ∷ second ∷ []) (x ∷ [])
+two_digits first second x a b is = record {
+  each = (a, (b, tt));
+  are_octets = (omega (arith, a, b, is), tt);
+  rest = bits 4 (digit_64 second % 16);
+  cut = two_cut (digit_64 first) (digit_64 second) x b is;
+  little = omega (arith, length-bits 4 (digit_64 second % 16));
+}
+
+pub three_digits : (first second third x y : ℕ) → digit_64 first < 64 → digit_64 second < 64 → digit_64 third < 64
+    → x ≡ digit_64 first * 4 + digit_64 second / 16 → y ≡ digit_64 second % 16 * 16 + digit_64 third / 4
+    → Groups SixtyFour (first ∷ second ∷ third ∷ []) (x ∷ y ∷ [])
+three_digits first second third x y a b c is also = record {
+  each = (a, (b, (c, tt)));
+  are_octets = (omega (arith, a, b, is), (omega (arith, b, c, also), tt));
+  rest = bits 2 (digit_64 third % 4);
+  cut = three_cut (digit_64 first) (digit_64 second) (digit_64 third) x y b c is also;
+  little = omega (arith, length-bits 2 (digit_64 third % 4));
+}
+
+pub padded_text : {characters octets old new : List ℕ} (text : List ℕ) (pads : ℕ) → Groups SixtyFour characters octets → 0 < pads → pads < 4
+    → text ≡ characters ++ replicate pads 61 → length text % 4 ≡ 0 → new ≡ old ++ octets → AppendsPadded text old new
+padded_text {characters} {octets} text pads groups some few written fours behind = record {
+  octets = octets;
+  decodes = record {
+    characters = characters;
+    text_of = record { pads = pads; few = few; written = written; fours = fours };
+    groups = groups;
+  };
+  some = some;
+  behind = behind;
+}
+
+four_all : (text : List ℕ) → length text ≡ 4 → text ≡ get_or text 0 0 ∷ get_or text 1 0 ∷ get_or text 2 0 ∷ get_or text 3 0 ∷ []
+four_all [] is = absurd (omega (arith, is))
+four_all (a ∷ []) is = absurd (omega (arith, is))
+four_all (a ∷ b ∷ []) is = absurd (omega (arith, is))
+four_all (a ∷ b ∷ c ∷ []) is = absurd (omega (arith, is))
+four_all (a ∷ b ∷ c ∷ d ∷ []) is = refl
+four_all (a ∷ b ∷ c ∷ d ∷ e ∷ text) is = absurd (omega (arith, is))
+
+pub one_padded : {octet : ℕ} {old new : List ℕ} (text : List ℕ) → length text ≡ 4 → get_or text 2 0 ≡ 61 → get_or text 3 0 ≡ 61
+    → Groups SixtyFour (get_or text 0 0 ∷ get_or text 1 0 ∷ []) (octet ∷ []) → new ≡ old ++ octet ∷ [] → AppendsPadded text old new
+one_padded text four pad last groups behind =
+    let written = four_all text four ∙ (λ i. get_or text 0 0 ∷ get_or text 1 0 ∷ pad i ∷ last i ∷ []) in
+    padded_text text 2 groups (omega arith) (omega arith) written (omega (arith, four)) behind
+
+pub two_padded : {octets old new : List ℕ} (text : List ℕ) → length text ≡ 4 → get_or text 3 0 ≡ 61
+    → Groups SixtyFour (get_or text 0 0 ∷ get_or text 1 0 ∷ get_or text 2 0 ∷ []) octets → new ≡ old ++ octets → AppendsPadded text old new
+two_padded text four last groups behind =
+    let written = four_all text four ∙ (λ i. get_or text 0 0 ∷ get_or text 1 0 ∷ get_or text 2 0 ∷ last i ∷ []) in
+    padded_text text 1 groups (omega arith) (omega arith) written (omega (arith, four)) behind
+
+-- behind whole groups
+pub padded_behind : {text left old now new : List ℕ} → AppendsGroups text left old now → AppendsPadded left now new → AppendsPadded text old new
+unfolding decodes_behind
+padded_behind {text} {left} {old} so padded =
+    let decodes = decodes_behind so.front so.octets so.groups so.whole left padded.octets padded.decodes in
+    let at = decodes.text_of in record {
+      octets = so.octets ++ padded.octets;
+      decodes = record {
+        characters = decodes.characters;
+        text_of = record {
+          pads = at.pads;
+          few = at.few;
+          written = so.is ∙ at.written;
+          fours = ap (λ (l : List ℕ). length l % 4) so.is ∙ at.fours;
+        };
+        groups = decodes.groups;
+      };
+      some = padded.some;
+      behind = padded.behind ∙ ap (λ (l : List ℕ). l ++ padded.octets) so.behind ∙ append_assoc old so.octets padded.octets;
+    }
+
+-- nothing follows padding
+pads_first : (behind more : List ℕ) (pads others : ℕ) → AllByRecursion (IsCharacter SixtyFour) behind → 0 < pads
+    → replicate pads 61 ++ more ≡ behind ++ replicate others 61 → behind ≡ []
+pads_first [] more pads others each some same = refl
+pads_first (c ∷ behind) more zero others each some same = absurd (omega (arith, some))
+pads_first (c ∷ behind) more (suc pads) others each some same =
+    let pad : c ≡ 61 = cc in absurd (no_pad (subst (IsCharacter SixtyFour) pad each.0))
+
+pub pads_end : {text octets : List ℕ} (decodes : Decodes64 text octets) → 0 < decodes.text_of.pads → (more others : List ℕ)
+    → Decodes64 (text ++ more) others → more ≡ []
+pads_end {text} decodes some more others also =
+    let at = decodes.text_of in
+    let there = also.text_of in
+    let whole : decodes.characters ++ (replicate at.pads 61 ++ more) ≡ also.characters ++ replicate there.pads 61 =
+    sym (append_assoc decodes.characters (replicate at.pads 61) more) ∙ ap (λ (l : List ℕ). l ++ more) (sym at.written) ∙ there.written in
+    let split = characters_behind decodes.characters also.characters (replicate at.pads 61 ++ more) there.pads decodes.groups.each also.groups.each whole in
+    let none = pads_first split.behind more at.pads there.pads split.each some split.written in
+    let all : length (replicate at.pads 61 ++ more) ≡ length (replicate there.pads 61) =
+    ap (length {A = ℕ}) (split.written ∙ ap (λ (l : List ℕ). l ++ replicate there.pads 61) none) in
+    nil_from_length more (omega (
+      arith,
+      all,
+      length-append (replicate at.pads 61) more,
+      length-replicate {A = ℕ} at.pads 61,
+      length-replicate {A = ℕ} there.pads 61,
+      at.fours,
+      there.fours,
+      length-append text more,
+      there.few,
+      some,
+    ))
+
+-- the last word
+pub no_tokens : (tokens : List Token) (some : Bool) → some ≡ false → ((tokens ≡ [] → ⊥) → some ≡ true) → tokens ≡ []
+no_tokens [] some off are = refl
+no_tokens (token ∷ tokens) some off are = let bad : true ≡ false = sym (are (λ none. cc)) ∙ off in absurd cc
+
+pub last_alone : {tokens left : List Token} (word : List ℕ) → Takes (IsWord word) tokens left → left ≡ [] → IsLastWord tokens
+last_alone {left = left} word takes none =
+    record { word = word; left = left; takes = takes; none = subst (λ (l : List Token). IsEntry IsWord l []) (sym none) refl }
+
+pub last_empty : {tokens left : List Token} {text : List ℕ} {word : List ℕ} → Takes (IsWord word) tokens left → IsEntry IsWord left text → IsLastWord tokens
+    → text ≡ []
+last_empty {left = left} {text} takes entry is =
+    let both : is.takes.token ∷ is.left ≡ takes.token ∷ left = sym is.takes.is ∙ takes.is in
+    let rest : is.left ≡ left = cc in words_one left text [] entry (subst (λ (l : List Token). IsEntry IsWord l []) rest is.none)
+
+-- the token that has such a text
+pub token_padded : {tokens left : List Token} {text old new : List ℕ} → Takes (HasText text) tokens left → AppendsPadded text old new
+    → BeginsPadded tokens old new
+token_padded {left = left} {old = old} {new} takes padded = record {
+  token = takes.token;
+  left = left;
+  is = takes.is;
+  appends = subst (λ (l : List ℕ). AppendsPadded l old new) (sym takes.fits) padded;
+}
+
+module _ {tokens before : List Token} {old now new : List ℕ} (so : TakesOn tokens before old now) (begins : BeginsPadded before now new) where
+  same_word : {word : List ℕ} {left : List Token} → Takes (IsWord word) before left → begins.token.text ≡ word
+  same_word {left = left} takes =
+      let both : begins.token ∷ begins.left ≡ takes.token ∷ left = sym begins.is ∙ takes.is in
+      let first : begins.token ≡ takes.token = cc in ap (λ (t : Token). t.text) (first ∙ takes.fits.0)
+
+  -- it is the last word
+  pub padded_last : IsLastWord before → (end : List Token) → end ≡ [] → AppendsBase64 tokens end old new
+  padded_last is end none =
+      let text = is.word ++ [] in
+      let entry : IsEntry IsWord before text =
+      subst (λ (t : List Token). IsEntry IsWord t text) (sym is.takes.is) (is.word, [], is.takes.fits, is.none, refl) in
+      let whole : begins.token.text ≡ text = same_word is.takes ∙ sym (append-nil is.word) in
+      so.on end new (base64_appended before end text begins.appends.octets now new entry none
+      (subst (λ (l : List ℕ). Decodes64 l begins.appends.octets) whole begins.appends.decodes) begins.appends.behind)
+
+  -- or there is no text in base 64
+  pub padded_none : (IsLastWord before → ⊥) → SpellsNoBase64 tokens
+  padded_none none = so.none (λ text octets entry decodes.
+      let at = subst (λ (t : List Token). IsEntry IsWord t text) begins.is entry in
+      let takes : Takes (IsWord at.0) before begins.left = record { token = begins.token; is = begins.is; fits = at.2 } in
+      let whole : chars text ≡ begins.token.text ++ at.1 =
+      words_chars before text entry ∙ at.4 ∙ ap (λ (l : List ℕ). l ++ at.1) (sym (same_word takes)) in
+      let ended = pads_end begins.appends.decodes begins.appends.some at.1 octets (subst (λ (l : List ℕ). Decodes64 l octets) whole decodes) in
+      none (record { word = at.0; left = begins.left; takes = takes; none = subst (IsEntry IsWord begins.left) ended at.3 }))

@@ -6,10 +6,22 @@ ghost use Rattle.dns_scan.specs.ScanError.{is_want_of_room};
 ghost use Rattle.dns_scan.specs.Token.{SameNames};
 ghost use Rattle.dns_scan.specs.declared.encoding.base.Base.TheVariants.{SixtyFour};
 ghost use Rattle.dns_field_texts.specs.Appended.{GoesOn};
-ghost use Rattle.dns_field_texts.specs.AppendedBase64.{AppendsBase64, AppendsGroups, BeginsWithGroups, SpellsNoBase64};
+ghost use Rattle.dns_field_texts.specs.AppendedBase64.{AppendsBase64, AppendsGroups, AppendsPadded, BeginsPadded, BeginsWithGroups, IsLastWord, SpellsNoBase64};
+ghost use Rattle.dns_field_texts.specs.declared.base64.NextText.TheVariants.{Groups as IsGroups, Other as IsOther, Padded as IsPadded};
 
 use dns_text::{DecodeError, Scanner, ScannerError, base64};
 use std::alloc::AllocError;
+
+/// What the text of the next token is.
+#[derive(Clone, Copy)]
+pub(crate) enum NextText {
+    /// Whole groups of four characters.
+    Groups,
+    /// Whole groups, the last one with padding.
+    Padded,
+    /// Neither.
+    Other,
+}
 
 /// Scans all words that are left, joined to one text in base 64, and appends its octets.
 ///
@@ -23,9 +35,10 @@ pub fn scan_base64_into<S: Scanner>(scanner: &mut S, octets: &mut Vec<u8>) -> Re
     ensures more { GoesOn octets.old.items octets.new.items }
 {
     while scanner.continues() {
-        match append_next_groups(scanner, octets) {
-            Ok(true) => {}
-            Ok(false) => break,
+        match append_next_text(scanner, octets) {
+            Ok(NextText::Groups) => {}
+            Ok(NextText::Padded) => return scan_last_word(scanner),
+            Ok(NextText::Other) => break,
             Err(error) => return Err(error),
         }
         match scanner.scan_ascii_str(any_word) {
@@ -36,6 +49,28 @@ pub fn scan_base64_into<S: Scanner>(scanner: &mut S, octets: &mut Vec<u8>) -> Re
     scan_joined_into(scanner, octets)
 }
 
+/// Takes the next word, which is the last one with characters.
+///
+/// Fails with an error other than `short_buf` only if there is none, or if characters follow it.
+fn scan_last_word<S: Scanner>(scanner: &mut S) -> Result<(), S::Error>
+    ensures ok { OnOk result (IsLastWord (S.tokens scanner.old) × (S.tokens scanner.new ≡ [])) }
+    ensures err { IfErr result (λ error. S.Error.is_short error ≡ false → IsLastWord (S.tokens scanner.old) → ⊥) }
+    ensures names { SameNames (S.names scanner.old) (S.names scanner.new) }
+{
+    match scanner.scan_ascii_str(any_word) {
+        Ok(()) => {}
+        Err(error) => return Err(error),
+    }
+    if !scanner.continues() {
+        return Ok(());
+    }
+    match scanner.scan_ascii_entry() {
+        Ok(text) if text.is_empty() => Ok(()),
+        Ok(_) => Err(S::Error::custom("trailing input")),
+        Err(error) => Err(error),
+    }
+}
+
 /// Takes any word.
 fn any_word(_word: &str) -> Option<()>
     ensures { IsSome result }
@@ -43,13 +78,14 @@ fn any_word(_word: &str) -> Option<()>
     Some(())
 }
 
-/// Appends the octets of the next token's text if that is whole groups of four characters without padding, and returns whether
-/// it is. Otherwise nothing is appended.
+/// Appends the octets of the next token's text if that is whole groups of four characters, of which the last one may have
+/// padding, and returns what it is. Otherwise nothing is appended.
 ///
 /// Fails with an error other than `short_buf` only if there is no token. It may have appended some of the octets if it fails.
-fn append_next_groups<S: Scanner>(scanner: &S, octets: &mut Vec<u8>) -> Result<bool, S::Error>
-    ensures whole { IfOk result (λ whole. IsTrue whole → BeginsWithGroups (S.tokens scanner.now) octets.old.items octets.new.items) }
-    ensures other { IfOk result (λ whole. (IsTrue whole → ⊥) → octets.new.items ≡ octets.old.items) }
+fn append_next_text<S: Scanner>(scanner: &S, octets: &mut Vec<u8>) -> Result<NextText, S::Error>
+    ensures groups { IfOk result (λ next. next ≡ IsGroups → BeginsWithGroups (S.tokens scanner.now) octets.old.items octets.new.items) }
+    ensures padded { IfOk result (λ next. next ≡ IsPadded → BeginsPadded (S.tokens scanner.now) octets.old.items octets.new.items) }
+    ensures other { IfOk result (λ next. next ≡ IsOther → octets.new.items ≡ octets.old.items) }
     ensures err { IfErr result (λ error. S.Error.is_short error ≡ false → S.tokens scanner.now ≡ []) }
     ensures more { GoesOn octets.old.items octets.new.items }
 {
@@ -57,15 +93,19 @@ fn append_next_groups<S: Scanner>(scanner: &S, octets: &mut Vec<u8>) -> Result<b
         Ok(text) => text,
         Err(error) => return Err(error),
     };
-    if matches!(text, [.., b'=']) {
-        return Ok(false);
-    }
     let before = octets.len();
-    match append_groups(text, octets) {
-        Ok([]) => Ok(true),
-        Ok(_) => {
+    let left = match append_groups(text, octets) {
+        Ok(left) => left,
+        Err(_) => return Err(S::Error::short_buf()),
+    };
+    if left.is_empty() {
+        return Ok(NextText::Groups);
+    }
+    match append_padded(left, octets) {
+        Ok(true) => Ok(NextText::Padded),
+        Ok(false) => {
             octets.truncate(before);
-            Ok(false)
+            Ok(NextText::Other)
         }
         Err(_) => Err(S::Error::short_buf()),
     }
@@ -149,6 +189,55 @@ fn group_octets(first: u8, second: u8, third: u8, fourth: u8) -> Option<[u8; 3]>
         return None;
     }
     Some([a * 4 + b / 16, b % 16 * 16 + c / 4, c % 4 * 64 + d])
+}
+
+/// Appends the octets of a group with padding if the text is one, and returns whether it is. Otherwise nothing is appended.
+///
+/// Fails if out of memory, and then appends nothing.
+fn append_padded(text: &[u8], octets: &mut Vec<u8>) -> Result<bool, AllocError>
+    ensures yes { IfOk result (λ padded. IsTrue padded → AppendsPadded text.now octets.old.items octets.new.items) }
+    ensures no { IfOk result (λ padded. (IsTrue padded → ⊥) → octets.new.items ≡ octets.old.items) }
+    ensures same { IfErr result (λ _. octets.new.items ≡ octets.old.items) }
+{
+    match text {
+        [first, second, b'=', b'='] => match one_octet(*first, *second) {
+            Some(x) => {
+                octets.push(x)?;
+                Ok(true)
+            }
+            None => Ok(false),
+        },
+        [first, second, third, b'='] => match two_octets(*first, *second, *third) {
+            Some(both) => {
+                octets.extend_from_slice(&both)?;
+                Ok(true)
+            }
+            None => Ok(false),
+        },
+        _ => Ok(false),
+    }
+}
+
+/// Returns the octet of two characters, or `None` if one of them is not in the alphabet.
+fn one_octet(first: u8, second: u8) -> Option<u8>
+    ensures { IfSome result (λ octet. Groups SixtyFour (first ∷ second ∷ []) (octet ∷ [])) }
+{
+    let (a, b) = (number(first), number(second));
+    if a > 63 || b > 63 {
+        return None;
+    }
+    Some(a * 4 + b / 16)
+}
+
+/// Returns the two octets of three characters, or `None` if one of them is not in the alphabet.
+fn two_octets(first: u8, second: u8, third: u8) -> Option<[u8; 2]>
+    ensures { IfSome result (λ octets. Groups SixtyFour (first ∷ second ∷ third ∷ []) octets) }
+{
+    let (a, b, c) = (number(first), number(second), number(third));
+    if a > 63 || b > 63 || c > 63 {
+        return None;
+    }
+    Some([a * 4 + b / 16, b % 16 * 16 + c / 4])
 }
 
 /// Returns the number of a character, or 64 if it is not in the alphabet.
