@@ -1,8 +1,8 @@
 -- The words before a record's data, read one by one.
-use Rattle.std.proofs.Common.{Bool, ◌≡◌, ◌^◌, ℕ, true, false, List, ◌∷◌, ◌++◌, Option, Some, None, refl, sym, ◌∙◌, ap, subst}
+use Rattle.std.proofs.Common.{Bool, ◌≡◌, ◌^◌, ◌<◌, ◌≤◌, ℕ, zero, suc, true, false, List, [], ◌∷◌, ◌++◌, Option, Some, None, length, take, refl, sym, ◌∙◌, ap, subst, arith, length-take}
 use Rattle.std.specs.List.{list_all}
 use Rattle.std.specs.Char.{is_ascii_digit}
-use Rattle.dns_values.specs.Mnemonic.{number_spelled, type_read}
+use Rattle.dns_values.specs.Mnemonic.{number_spelled}
 use Rattle.dns_values.proofs.Words.{number_spelled-other}
 use Rattle.dns_scan.specs.Token.{Token, Takes, IsWord}
 use Rattle.dns_zonefile.specs.Statement.{HasHead, IsClass, IsTtl, IsType, States}
@@ -179,3 +179,123 @@ spelled_digits text seconds false all is = let bad : None ≡ Some seconds = sym
 
 pub number_heads : (text : List ℕ) (seconds : ℕ) → Some seconds ≡ number_spelled (2 ^ 32) text → Heads text (Ttl seconds)
 number_heads text seconds is = (spelled_digits text seconds (list_all is_ascii_digit text) refl (sym is), sym is)
+
+-- exactly so many words before a type
+pub no_ttl_word : {tokens left : List Token} {seconds : ℕ} → ((word : HeadWord) (mid : List Token) → Takes (IsHeadWord word) tokens mid → ⊥)
+    → Takes (IsTtl seconds) tokens left → ⊥
+no_ttl_word {left = left} {seconds} none takes = none (Ttl seconds) left takes
+
+pub no_class_word : {tokens left : List Token} {number : ℕ} → ((word : HeadWord) (mid : List Token) → Takes (IsHeadWord word) tokens mid → ⊥)
+    → Takes (IsClass number) tokens left → ⊥
+no_class_word {left = left} {number} none takes = none (Class number) left takes
+
+pub none_stated : (tokens : List Token) (count : ℕ) → count ≡ 0 → States (take count tokens) None None
+none_stated tokens count is = subst (λ (n : ℕ). States (take n tokens) None None) (sym is) nothing
+
+pub ttl_stated : {tokens left : List Token} {seconds : ℕ} (count : ℕ) → count ≡ 1 → Takes (IsHeadWord (Ttl seconds)) tokens left
+    → States (take count tokens) (Some seconds) None
+ttl_stated {tokens} {seconds = seconds} count is takes =
+    subst (λ (n : ℕ). States (take n tokens) (Some seconds) None) (sym is)
+    (subst (λ (l : List Token). States (take 1 l) (Some seconds) None) (sym takes.is) (ttl takes.fits))
+
+pub class_stated : {tokens left : List Token} {number : ℕ} (count : ℕ) → count ≡ 1 → Takes (IsHeadWord (Class number)) tokens left
+    → States (take count tokens) None (Some number)
+class_stated {tokens} {number = number} count is takes =
+    subst (λ (n : ℕ). States (take n tokens) None (Some number)) (sym is)
+    (subst (λ (l : List Token). States (take 1 l) None (Some number)) (sym takes.is) (class takes.fits))
+
+two_taken : {tokens mid left : List Token} {first second : Token} (count : ℕ) → count ≡ 2 → tokens ≡ first ∷ mid → mid ≡ second ∷ left
+    → take count tokens ≡ first ∷ second ∷ []
+two_taken {tokens} {first = first} count is begins on =
+    ap (λ (n : ℕ). take n tokens) is ∙ ap (take {A = Token} 2) (begins ∙ ap (λ (l : List Token). first ∷ l) on)
+
+pub ttl_class_stated : {tokens mid left : List Token} {seconds number : ℕ} (count : ℕ) → count ≡ 2 → Takes (IsHeadWord (Ttl seconds)) tokens mid
+    → Takes (IsClass number) mid left → States (take count tokens) (Some seconds) (Some number)
+ttl_class_stated {seconds = seconds} {number} count is takes also =
+    subst (λ (l : List Token). States l (Some seconds) (Some number)) (sym (two_taken count is takes.is also.is)) (ttl_class takes.fits also.fits)
+
+pub class_ttl_stated : {tokens mid left : List Token} {seconds number : ℕ} (count : ℕ) → count ≡ 2 → Takes (IsHeadWord (Class number)) tokens mid
+    → Takes (IsTtl seconds) mid left → States (take count tokens) (Some seconds) (Some number)
+class_ttl_stated {seconds = seconds} {number} count is takes also =
+    subst (λ (l : List Token). States l (Some seconds) (Some number)) (sym (two_taken count is takes.is also.is)) (class_ttl takes.fits also.fits)
+
+-- the first of some words says what is stated
+pub no_first : {tokens : List Token} {ttl' class' : Option ℕ} (count : ℕ) → 0 < count → count ≤ length tokens
+    → ((word : HeadWord) (mid : List Token) → Takes (IsHeadWord word) tokens mid → ⊥) → States (take count tokens) ttl' class' → ⊥
+no_first {tokens = []} count some within none states = absurd (omega (arith, some, within))
+no_first {tokens = token ∷ tokens} zero some within none states = absurd (omega (arith, some))
+no_first {tokens = token ∷ tokens} (suc count) some within none states = by states refl
+  where
+    by : {stated : List Token} {ttl' class' : Option ℕ} → States stated ttl' class' → stated ≡ token ∷ take count tokens → ⊥
+    by nothing same = let no : ⊥ = cc in no
+    by (ttl {token = first} {seconds = n} says) same =
+        let here : first ≡ token = cc in none (Ttl n) tokens (record { token = token; is = refl; fits = subst (IsTtl n) here says })
+    by (class {token = first} {number = n} says) same =
+        let here : first ≡ token = cc in none (Class n) tokens (record { token = token; is = refl; fits = subst (IsClass n) here says })
+    by (ttl_class {first = first} {seconds = n} says also) same =
+        let here : first ≡ token = cc in none (Ttl n) tokens (record { token = token; is = refl; fits = subst (IsTtl n) here says })
+    by (class_ttl {first = first} {number = n} says also) same =
+        let here : first ≡ token = cc in none (Class n) tokens (record { token = token; is = refl; fits = subst (IsClass n) here says })
+
+-- and so does the second of two
+second_is : {tokens mid : List Token} (count : ℕ) → count ≡ 2 → count ≤ length tokens → {first : Token} → tokens ≡ first ∷ mid
+    → (second : Token) × (rest : List Token) × (mid ≡ second ∷ rest)
+second_is {mid = []} count is within begins = absurd (omega (arith, is, within, ap (length {A = Token}) begins))
+second_is {mid = second ∷ rest} count is within begins = (second, rest, refl)
+
+no_class_second' : {tokens mid : List Token} {seconds : ℕ} {ttl' class' : Option ℕ} (count : ℕ) → count ≡ 2 → count ≤ length tokens
+    → Takes (IsHeadWord (Ttl seconds)) tokens mid → ((number : ℕ) (left : List Token) → Takes (IsClass number) mid left → ⊥)
+    → States (take count tokens) ttl' class' → ⊥
+no_class_second' {mid = mid} {seconds} count is within takes none states =
+    let two = second_is count is within takes.is in by two states (two_taken count is takes.is two.2)
+  where
+    by : (two : (second : Token) × (rest : List Token) × (mid ≡ second ∷ rest)) {stated : List Token} {ttl' class' : Option ℕ}
+        → States stated ttl' class' → stated ≡ takes.token ∷ two.0 ∷ [] → ⊥
+    by two nothing same = let no : ⊥ = cc in no
+    by two (ttl says) same = let no : ⊥ = cc in no
+    by two (class says) same = let no : ⊥ = cc in no
+    by two (ttl_class {second = second} {number = n} says also) same =
+        let here : second ≡ two.0 = cc in none n two.1 (record { token = two.0; is = two.2; fits = subst (IsClass n) here also })
+    by two (class_ttl {first = first} {number = n} says also) same =
+        let here : first ≡ takes.token = cc in
+        let bad : Class n ≡ Ttl seconds = word_one (Class n) (Ttl seconds) takes.token (subst (IsClass n) here says) takes.fits in absurd cc
+
+no_ttl_second' : {tokens mid : List Token} {number : ℕ} {ttl' class' : Option ℕ} (count : ℕ) → count ≡ 2 → count ≤ length tokens
+    → Takes (IsHeadWord (Class number)) tokens mid → ((seconds : ℕ) (left : List Token) → Takes (IsTtl seconds) mid left → ⊥)
+    → States (take count tokens) ttl' class' → ⊥
+no_ttl_second' {mid = mid} {number} count is within takes none states =
+    let two = second_is count is within takes.is in by two states (two_taken count is takes.is two.2)
+  where
+    by : (two : (second : Token) × (rest : List Token) × (mid ≡ second ∷ rest)) {stated : List Token} {ttl' class' : Option ℕ}
+        → States stated ttl' class' → stated ≡ takes.token ∷ two.0 ∷ [] → ⊥
+    by two nothing same = let no : ⊥ = cc in no
+    by two (ttl says) same = let no : ⊥ = cc in no
+    by two (class says) same = let no : ⊥ = cc in no
+    by two (class_ttl {second = second} {seconds = n} says also) same =
+        let here : second ≡ two.0 = cc in none n two.1 (record { token = two.0; is = two.2; fits = subst (IsTtl n) here also })
+    by two (ttl_class {first = first} {seconds = n} says also) same =
+        let here : first ≡ takes.token = cc in
+        let bad : Ttl n ≡ Class number = word_one (Ttl n) (Class number) takes.token (subst (IsTtl n) here says) takes.fits in absurd cc
+
+pub no_class_second : {word : HeadWord} {tokens mid : List Token} {seconds : ℕ} {ttl' class' : Option ℕ} (count : ℕ) → count ≡ 2
+    → count ≤ length tokens → word ≡ Ttl seconds → Takes (IsHeadWord word) tokens mid
+    → ((number : ℕ) (left : List Token) → Takes (IsClass number) mid left → ⊥) → States (take count tokens) ttl' class' → ⊥
+no_class_second {tokens = tokens} {mid} {seconds} count is within word_is takes none states =
+    no_class_second' {seconds = seconds} count is within (subst (λ (w : HeadWord). Takes (IsHeadWord w) tokens mid) word_is takes) none states
+
+pub no_ttl_second : {word : HeadWord} {tokens mid : List Token} {number : ℕ} {ttl' class' : Option ℕ} (count : ℕ) → count ≡ 2
+    → count ≤ length tokens → word ≡ Class number → Takes (IsHeadWord word) tokens mid
+    → ((seconds : ℕ) (left : List Token) → Takes (IsTtl seconds) mid left → ⊥) → States (take count tokens) ttl' class' → ⊥
+no_ttl_second {tokens = tokens} {mid} {number} count is within word_is takes none states =
+    no_ttl_second' {number = number} count is within (subst (λ (w : HeadWord). Takes (IsHeadWord w) tokens mid) word_is takes) none states
+
+-- at most two words are stated
+few_stated : {stated : List Token} {ttl' class' : Option ℕ} → States stated ttl' class' → length stated ≤ 2
+few_stated nothing = omega arith
+few_stated (ttl says) = omega arith
+few_stated (class says) = omega arith
+few_stated (ttl_class says also) = omega arith
+few_stated (class_ttl says also) = omega arith
+
+pub too_many : (tokens : List Token) {ttl' class' : Option ℕ} (count : ℕ) → 2 < count → count ≤ length tokens → States (take count tokens) ttl' class' → ⊥
+too_many tokens count many within states = omega (arith, many, within, few_stated states, length-take count tokens)

@@ -14,6 +14,7 @@ pub mod Lengthened
 pub mod Rests
 mod Forms
 mod ComposedRows
+pub mod RecordFronts
 mod LastOwners
 mod FrequentWords
 mod Numbers

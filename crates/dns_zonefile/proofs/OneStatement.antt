@@ -151,6 +151,11 @@ stated_class (ttl_class {second = second} is also) =
 stated_class (class_ttl {second = second} is also) =
     sym (ap (λ (o : Option ℕ). option_or o (option_or (class_of second) None)) (class_class is))
 
+-- the class of the same words is one
+pub one_class : {stated others : List Token} {seconds seconds' class class' : Option ℕ} → stated ≡ others → States stated seconds class
+    → States others seconds' class' → class ≡ class'
+one_class same is also = stated_class is ∙ ap (first_of class_of) same ∙ sym (stated_class also)
+
 stated_no_type : {stated : List Token} {seconds class : Option ℕ} → States stated seconds class → AllByRecursion IsNoType stated
 stated_no_type nothing = tt
 stated_no_type (ttl_alone is) = (ttl_type is, tt)

@@ -11,5 +11,6 @@ pub mod ReaderSeen
 pub mod RowRead
 pub mod Composed
 pub mod ComposedRow
+pub mod RecordFront
 pub mod LastOwner
 pub mod PassedOver

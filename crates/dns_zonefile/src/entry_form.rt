@@ -8,11 +8,13 @@ ghost use Rattle.dns_zonefile.specs.Entry.{IsEntry};
 ghost use Rattle.dns_zonefile.specs.RowRead.{IsGiven};
 ghost use Rattle.dns_zonefile.specs.Seen.{context_of, row_of};
 
+mod front;
 mod octets;
 mod values;
 
 use crate::context::Context;
 use dns_entry_scanner::{EntryError, TokenSpan};
+pub(crate) use front::take_front;
 use std::alloc::Global;
 pub(crate) use values::AsValues;
 

@@ -1,16 +1,19 @@
 //! Reading the entries of rows that the caller finds.
-ghost use Rattle.std.specs.Prelude.{◌≡◌, ℕ, List, Option, Some, None, false, map, option_copied, IfOk, IfErr, OnErr};
+ghost use Rattle.std.specs.Prelude.{◌≡◌, ◌≤◌, ◌++◌, ℕ, Bool, List, Option, Some, None, false, length, map, option_copied, take, IfOk, IfErr, OnErr, OnOk};
 ghost use Rattle.dns_entry_scanner.specs.EntryError.{is_memory};
+ghost use Rattle.dns_entry_scanner.specs.NameInText.{SpellsUnder};
 ghost use Rattle.dns_entry_scanner.specs.RowFound.{IsRowAt};
 ghost use Rattle.dns_entry_scanner.specs.TokenSpan.{token_in};
+ghost use Rattle.dns_label.specs.Name.{wire};
 ghost use Rattle.dns_zonefile.specs.ComposedRow.{IsHandedOn};
 ghost use Rattle.dns_zonefile.specs.Entry as spec;
 ghost use Rattle.dns_zonefile.specs.Entry.{IsEntry, at_start};
+ghost use Rattle.dns_zonefile.specs.RecordFront.{IsFront};
 ghost use Rattle.dns_zonefile.specs.Seen.{row_of};
 
 use crate::ComposedEntry;
 use crate::context::Context;
-use crate::entry_form::EntryForm;
+use crate::entry_form::{EntryForm, take_front};
 use dns_entry_scanner::{EntryError, TokenSpan};
 use dns_name::{Class, Name};
 use std::alloc::Global;
@@ -90,5 +93,41 @@ impl EntryReader {
         ensures kept { OnErr result (octets.new.items ≡ octets.old.items) }
     {
         octets.take_row(self.alloc, &mut self.context, text, place, spans, blank_led)
+    }
+
+    /// Reads the tokens of a record's row before its type, and applies what they set: an owner, unless the row begins with white
+    /// space, and then a TTL and a class, each stated or not. They are the first `count` tokens of the row. The octets of the
+    /// record's owner are appended. The row is given as to `read_entry`.
+    ///
+    /// Fails with an error other than `OutOfMemory` only if they are no such tokens. Nothing is then changed.
+    pub fn read_front(
+        &mut self,
+        text: &[u8],
+        place: usize,
+        spans: &[TokenSpan],
+        blank_led: bool,
+        count: usize,
+        octets: &mut Vec<u8>,
+    ) -> Result<(), EntryError>
+        requires row { (next : ℕ) × (led : Bool) × IsRowAt text.now place spans.now next led }
+        requires within { count ≤ length spans.now }
+        ensures ok { OnOk result ((owner : List (List ℕ))
+            × IsFront (SpellsUnder self.old.origin) self.old blank_led (take count (map (λ span. token_in text.now span) spans.now)) owner self.new
+            × (octets.new.items ≡ octets.old.items ++ wire owner)) }
+        ensures err { IfErr result (λ error. is_memory error ≡ false → (owner : List (List ℕ)) (after : spec.Context)
+            → IsFront (SpellsUnder self.old.origin) self.old blank_led (take count (map (λ span. token_in text.now span) spans.now)) owner after → ⊥) }
+        ensures same { OnErr result (self.new ≡ self.old) }
+        ensures kept { OnErr result (octets.new.items ≡ octets.old.items) }
+    {
+        take_front(
+            self.alloc,
+            &mut self.context,
+            text,
+            place,
+            spans,
+            blank_led,
+            count,
+            octets,
+        )
     }
 }

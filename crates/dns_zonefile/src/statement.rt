@@ -17,7 +17,7 @@ use dns_entry_scanner::EntryScanner;
 use dns_name::{Class, Octets, ToName, Ttl};
 use dns_rdata::ZoneRecordData;
 use dns_text::{Scanner, ScannerError};
-pub(crate) use head::scan_head;
+pub(crate) use head::{scan_head, scan_stated};
 pub(crate) use owner::scan_owner;
 
 /// A record as a row states it (RFC 1035 5.1).

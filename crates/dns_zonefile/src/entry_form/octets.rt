@@ -175,7 +175,7 @@ fn append_record(
 /// white space. Fails with an error other than `OutOfMemory` only if the row states none and there is no last one, or
 /// its first token spells no name. Nothing is then appended.
 #[tactic(auto, using(crate::proofs::ComposedRows::stated_stands, crate::proofs::ComposedRows::last_stands, crate::proofs::ComposedRows::no_stated, crate::proofs::ComposedRows::no_last))]
-fn append_owner(
+pub(super) fn append_owner(
     blank_led: bool,
     context: &Context,
     scanner: &mut RowScanner<'_, InlineName>,
@@ -195,7 +195,7 @@ fn append_owner(
 }
 
 /// Returns the name in the first `len` octets.
-fn owner_in(octets: &[u8], len: usize) -> Name<&[u8]>
+pub(super) fn owner_in(octets: &[u8], len: usize) -> Name<&[u8]>
     requires { (name : List (List ℕ)) × BeginsWithName octets.now len name }
     ensures { (name : List (List ℕ)) → BeginsWithName octets.now len name → result ≡ name }
 {

@@ -1,10 +1,10 @@
 //! The part of a record's row between its owner and its data: a TTL and a class, if they are stated, and a type.
-ghost use Rattle.std.specs.Prelude.{◌≡◌, ◌<◌, ◌^◌, List, ℕ, Option, Some, None, false, true, IfOk, IfErr, IfSome, IfNone, option_copied};
+ghost use Rattle.std.specs.Prelude.{◌≡◌, ◌<◌, ◌≤◌, ◌^◌, List, ℕ, Option, Some, None, false, true, IfOk, IfErr, IfSome, IfNone, length, option_copied, take};
 ghost use Rattle.std.specs.List.{list_all};
 ghost use Rattle.std.specs.Char.{is_ascii_digit};
 ghost use Rattle.dns_values.specs.Mnemonic.{number_spelled};
 ghost use Rattle.dns_scan.specs.Token.{Token, SameNames, Takes};
-ghost use Rattle.dns_zonefile.specs.Statement.{HasHead};
+ghost use Rattle.dns_zonefile.specs.Statement.{HasHead, IsClass, IsTtl, States};
 ghost use Rattle.dns_zonefile.specs.HeadWord.{Heads, IsHeadWord};
 
 use super::frequent_word::frequent_word;
@@ -109,6 +109,63 @@ fn scan_type<S: EntryScanner>(scanner: &mut S) -> Result<Rtype, S::Error>
         HeadWord::Rtype(rtype) => Ok(rtype),
         HeadWord::Ttl(_) => Err(S::Error::custom("type expected")),
         HeadWord::Class(_) => Err(S::Error::custom("type expected")),
+    }
+}
+
+/// Reads the TTL and the class, if they are stated, in either order, from exactly so many words. The caller guarantees that there are
+/// as many tokens.
+#[inline(always)]
+#[tactic(auto, using(crate::proofs::Heads::none_stated, crate::proofs::Heads::ttl_stated, crate::proofs::Heads::class_stated, crate::proofs::Heads::ttl_class_stated, crate::proofs::Heads::class_ttl_stated, crate::proofs::Heads::too_many))]
+pub(crate) fn scan_stated<S: EntryScanner>(
+    count: usize,
+    scanner: &mut S,
+) -> Result<(Option<Ttl>, Option<Class>), S::Error>
+    requires { count ≤ length (S.tokens scanner.old) }
+    ensures ok { IfOk result (λ stated. States (take count (S.tokens scanner.old)) stated.0 stated.1) }
+    ensures err { IfErr result (λ error. S.Error.is_short error ≡ false → (ttl class : Option ℕ)
+        → States (take count (S.tokens scanner.old)) ttl class → ⊥) }
+{
+    match count {
+        0 => Ok((None, None)),
+        1 => match next_word(scanner)? {
+            HeadWord::Ttl(ttl) => Ok((Some(ttl), None)),
+            HeadWord::Class(class) => Ok((None, Some(class))),
+            HeadWord::Rtype(_) => Err(S::Error::custom("TTL or class expected")),
+        },
+        2 => match next_word(scanner)? {
+            HeadWord::Ttl(ttl) => Ok((Some(ttl), Some(scan_class(scanner)?))),
+            HeadWord::Class(class) => Ok((Some(scan_ttl(scanner)?), Some(class))),
+            HeadWord::Rtype(_) => Err(S::Error::custom("TTL or class expected")),
+        },
+        _ => Err(S::Error::custom("type expected")),
+    }
+}
+
+/// Reads a TTL.
+#[inline(always)]
+fn scan_ttl<S: EntryScanner>(scanner: &mut S) -> Result<Ttl, S::Error>
+    ensures ok { IfOk result (λ ttl. Takes (IsTtl ttl) (S.tokens scanner.old) (S.tokens scanner.new)) }
+    ensures err { IfErr result (λ error. S.Error.is_short error ≡ false → (ttl : ℕ) (left : List Token)
+        → Takes (IsTtl ttl) (S.tokens scanner.old) left → ⊥) }
+{
+    match next_word(scanner)? {
+        HeadWord::Ttl(ttl) => Ok(ttl),
+        HeadWord::Class(_) => Err(S::Error::custom("TTL expected")),
+        HeadWord::Rtype(_) => Err(S::Error::custom("TTL expected")),
+    }
+}
+
+/// Reads a class.
+#[inline(always)]
+fn scan_class<S: EntryScanner>(scanner: &mut S) -> Result<Class, S::Error>
+    ensures ok { IfOk result (λ class. Takes (IsClass class) (S.tokens scanner.old) (S.tokens scanner.new)) }
+    ensures err { IfErr result (λ error. S.Error.is_short error ≡ false → (class : ℕ) (left : List Token)
+        → Takes (IsClass class) (S.tokens scanner.old) left → ⊥) }
+{
+    match next_word(scanner)? {
+        HeadWord::Class(class) => Ok(class),
+        HeadWord::Ttl(_) => Err(S::Error::custom("class expected")),
+        HeadWord::Rtype(_) => Err(S::Error::custom("class expected")),
     }
 }
 
