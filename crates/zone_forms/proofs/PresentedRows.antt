@@ -1,5 +1,6 @@
 -- A row that is printed with its data in presentation form is the entry of the row that it was printed for.
-use Rattle.std.proofs.Common.{◌≡◌, ◌≤◌, ◌+◌, ◌++◌, ◌∙◌, ℕ, Bool, true, List, ◌∷◌, length, drop, map, codes, decimal, is_some, None, inl, inr, refl, sym, ap, subst, arith}
+use Rattle.std.proofs.Common.{◌≡◌, ◌≤◌, ◌+◌, ◌++◌, ◌∙◌, ℕ, Bool, true, List, ◌∷◌, length, drop, take, map, codes, decimal, is_some, None, inl, inr, refl, sym, ap, subst, arith}
+use Rattle.std.proofs.Math.Seq.{take-append_seam}
 use Rattle.std.specs.Prelude.{if◌then◌else◌, Option, Result, Ok, Err, Some, IfErr, IfNone, IfOk}
 use Rattle.std.specs.Result.{IsErrAnd}
 use Rattle.dns_values.specs.Mnemonic.{type_read}
@@ -186,3 +187,7 @@ pub goes_as_is : (row : FoundRow) (old : List ℕ) {layout : Layout} {context af
     → GoesGeneral context (row_in row) (octets_in row) general entry after → (HasPresentation (SpellsUnder context.origin) (row_in row) → ⊥)
     → out ≡ old ++ octets_in row → Goes row layout context after old out
 goes_as_is row old {entry = entry} told none is = let longer = longer_is told in (entry, octets_in row, longer, GoesPresented.same longer none, is)
+
+-- what was appended is cut off again
+pub cut_back : (old added : List ℕ) {whole cut : List ℕ} {len : ℕ} → len ≡ length old → whole ≡ old ++ added → cut ≡ take len whole → cut ≡ old
+cut_back old added size is cuts = cuts ∙ (λ i. take (size i) (is i)) ∙ take-append_seam old added

@@ -55,7 +55,10 @@ impl TextForm for Presenter {
         out: &mut Vec<u8>,
     ) -> Result<(), EntryError> {
         let printed = printed_row(self.alloc, self.kind, reader.origin(), row)?;
-        reader.read_entry(row)?;
+        let len = out.len();
+        reader.read_entry(row, out)?;
+        // The general row is not asked for.
+        out.truncate(len);
         match printed {
             Some(printed) => Ok(out.extend_from_slice(&printed)?),
             None => Ok(out.extend_from_slice(row.octets())?),

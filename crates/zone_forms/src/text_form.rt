@@ -10,7 +10,7 @@ ghost use Rattle.zone_general.specs.Rewritten.{GoesGeneral};
 ghost use Rattle.zone_general.specs.Seen.{IsFound, context_in, octets_in, row_in, tokens_in};
 
 use dns_zonefile::EntryError;
-use zone_general::{FoundRow, LongerReader, RowForm};
+use zone_general::{FoundRow, LongerReader};
 
 /// A form of further data in a text.
 ///
@@ -55,10 +55,6 @@ impl TextForm for GeneralForm {
         row: FoundRow<'_>,
         out: &mut Vec<u8>,
     ) -> Result<(), EntryError> {
-        let octets = match reader.read_entry(row)? {
-            RowForm::Same => row.octets(),
-            RowForm::Further => reader.general(),
-        };
-        Ok(out.extend_from_slice(octets)?)
+        reader.read_entry(row, out)
     }
 }

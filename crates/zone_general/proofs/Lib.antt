@@ -9,10 +9,11 @@ pub mod RowData
 pub mod KnownWords
 pub mod TypeOf
 pub mod GeneralForm
+mod HexLanes
 pub mod GeneralRows
 pub mod LongerRows
 pub mod WrittenRows
-pub mod StandIn
+pub mod FrontEntries
 pub mod ReadRows
 pub mod FoundRows
 pub mod ReadableRows

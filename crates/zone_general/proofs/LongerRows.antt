@@ -1,7 +1,6 @@
 -- Rows with data in general form: what they say, and that each reads as its row does.
 use Rattle.std.proofs.Common.{◌≡◌, ◌⊎◌, ◌+◌, ◌≤◌, ◌^◌, ◌++◌, ◌∙◌, ℕ, Bool, true, false, not, List, [], ◌∷◌, length, drop, map, codes, decimal, is_some, Option, Some, None, inl, inr, refl, sym, ap, subst, arith, append-nil}
-use Rattle.std.specs.Prelude.{◌↔◌, if◌then◌else◌, unwrap_or, IfNone, IfSome, IsTrue}
-use Rattle.std.specs.Option.{option_or}
+use Rattle.std.specs.Prelude.{◌↔◌, if◌then◌else◌, IfNone, IfSome, IsTrue}
 use Rattle.dns_label.specs.Octets.{AreOctets}
 use Rattle.dns_values.specs.Mnemonic.{type_read}
 use Rattle.dns_name.specs.UnknownText.{hex_of, hex_words}
@@ -15,16 +14,12 @@ use Rattle.dns_scan.proofs.HexWords.{hex_encoded}
 use Rattle.dns_text.specs.Rows.{TokenRow}
 use Rattle.dns_fields.proofs.PrintedRows.{safe_16}
 use Rattle.dns_fields.proofs.PrintedTexts.{number_back, safe_decimal, safe_plain}
-use Rattle.dns_rdata.specs.Data.{Data, unknown_data, number_of}
 use Rattle.dns_fields_more.specs.Forms.{forms_of}
 use Rattle.dns_fields_more.specs.declared.form.Form.{Form}
 use Rattle.dns_entry_scanner.specs.NameInText.{SpellsUnder}
-use Rattle.dns_zonefile.specs.Entry.{Context, Entry, Enters, IsEntry}
-use Rattle.dns_zonefile.specs.Entry.Entry.{Resource}
-use Rattle.dns_zonefile.specs.Entry.Enters.{resource as enters_record}
-use Rattle.dns_zonefile.specs.Statement.{IsDirective, Names, Says, Stated, Statement, StatesRecord}
-use Rattle.dns_zonefile.specs.Statement.Says.{directive, resource}
-use Rattle.dns_zonefile.specs.Statement.Statement.{StateRecord}
+use Rattle.dns_zonefile.specs.Entry.{Context, Entry}
+use Rattle.dns_zonefile.specs.Statement.{IsDirective}
+use Rattle.dns_zonefile.specs.Statement.Says.{directive}
 use Rattle.zone_general.specs.LongerEntries.{IsLongerEntry}
 use Rattle.zone_general.specs.LongerRow.{HasFront, HasType, IsGeneralRow, IsMarked, ScansLonger, Stands, general_tokens, known_word, with_tokens}
 use Rattle.zone_general.specs.LongerRow.HasFront.{last, own}
@@ -32,9 +27,7 @@ use Rattle.zone_general.specs.LongerRow.IsGeneralRow.{same, further}
 use Rattle.zone_general.specs.Seen.{HasTypeAt, row_in, tokens_in}
 use Rattle.zone_general.specs.declared.found_row.FoundRow.{FoundRow}
 use Rattle.zone_general.specs.declared.stated_type.RowType.{RowType}
-use Rattle.zone_general.proofs.KnownWords.{known_reads}
 use Rattle.zone_general.proofs.RowTypes.{data_at, one_type}
-use Rattle.zone_general.proofs.SameRecords.{head_is, is_type_word, not_stated, owner_stays}
 
 -- the word for the type of a general row, from that of the row
 module _ {row : TokenRow} {kind : RowType} (has : HasTypeAt row kind) {text : List ℕ} where
@@ -144,71 +137,6 @@ still_none {row} word behind other again none is front directs = by front is dir
           others = others ++ word ∷ behind;
           is = whole ∙ ap (λ (t : Token). t ∷ (others ++ word ∷ behind)) same;
         })
-
--- what a statement enters with other data
-enters_with : {context after : Context} {stated : Stated} {entry : Entry} (rdata : Data) → Enters context (StateRecord stated) entry after
-    → (other : Entry) × Enters context (StateRecord (record stated { rdata = rdata })) other after
-enters_with {context} rdata (enters_record {stated = stated} {owner = owner} {class = class} is_owner is_class known) = (
-  Resource (record {
-    owner = owner;
-    class = class;
-    ttl = unwrap_or (option_or stated.ttl context.default_ttl) context.last_ttl;
-    rdata = rdata;
-  }),
-  enters_record is_owner is_class known,
-)
-
--- the general row for some data is an entry if that for other data is one
-module _ {row : TokenRow} {front : List Token} {word : Token} {rtype : ℕ} {data' : List Token} (has : HasType row front word rtype data')
-    (content : List ℕ) (are : AreOctets content) (short : length content ≤ 65535) where
-  states_with : {names : Names} (other : List ℕ) {stated : Stated} → StatesRecord names (general_of row front word rtype other) stated
-      → StatesRecord names (general_of row front word rtype content)
-      (record stated { rdata = unknown_data (record { number = number_of stated.rdata; octets = content }) })
-  states_with {names} other {stated} is =
-      let known = unquoted (known_word word rtype) in
-      let owner = owner_stays front has.others (known ∷ general_tokens other) is.owner has.has_front refl in
-      let head = head_is has.others is.head.before (general_tokens other) is.data_tokens has.first
-      (not_stated (record { bare = refl; reads = known_reads has.type }) is.head.states) (is_type_word is.head.type_is) (sym owner.tokens_are ∙ is.head.is) in
-      record {
-        no_directive = still_none word data' known (general_tokens content) has.no_directive has.is has.has_front;
-        tokens = has.others ++ known ∷ general_tokens content;
-        owner = owner.stays (known ∷ general_tokens content);
-        data_tokens = general_tokens content;
-        head = record {
-          before = is.head.before;
-          type_token = is.head.type_token;
-          is = λ i. head.0 i ++ head.1 i ∷ general_tokens content;
-          states = is.head.states;
-          type_is = is.head.type_is;
-        };
-        scans = (refl, unquoted (decimal (length content)) ∷ map unquoted (hex_words content), refl, unknown_is content are short, refl);
-      }
-
-  pub entry_with : {context after : Context} {entry : Entry} (other : List ℕ) → IsEntry context (general_of row front word rtype other) entry after
-      → (found : Entry) × IsEntry context (general_of row front word rtype content) found after
-  entry_with {context} {after} {entry} other is = by is.says is.enters
-    where
-      by : {statement : Statement} → Says (SpellsUnder context.origin) (general_of row front word rtype other) statement → Enters context statement entry after
-          → (found : Entry) × IsEntry context (general_of row front word rtype content) found after
-      by (directive is_one directs) enters =
-          absurd (still_none word data' (unquoted (known_word word rtype)) (general_tokens other) has.no_directive has.is has.has_front is_one)
-      by (resource {stated = stated} states) enters =
-          let rdata = unknown_data (record { number = number_of stated.rdata; octets = content }) in
-          let made = enters_with rdata enters in
-          (made.0, record { statement = StateRecord (record stated { rdata = rdata }); says = resource (states_with other states); enters = made.1 })
-
-  pub none_further : {context : Context} → (Stands row → ⊥)
-      → ((entry : Entry) (after : Context) → IsEntry context (general_of row front word rtype content) entry after → ⊥) → (entry : Entry) (after : Context)
-      → IsLongerEntry context row entry after → ⊥
-  none_further {context} not none entry after is = by is.is is.so
-    where
-      by : {general : TokenRow} → IsGeneralRow (SpellsUnder context.origin) row general → IsEntry context general entry after → ⊥
-      by (same stands) so = not stands
-      by (further {front = front'} {word = word'} {rtype = rtype'} {octets = octets} still has' scans) so =
-          let one = one_type has' has in
-          let ours : general_of row front' word' rtype' octets ≡ general_of row front word rtype octets =
-          λ i. general_of row (one.fronts i) (one.words i) (one.types i) octets in
-          let made = entry_with octets (subst (λ (r : TokenRow). IsEntry context r entry after) ours so) in none made.0 after made.1
 
 -- a row whose data does not read is no entry
 pub none_scanned : {context : Context} {row : TokenRow} {front : List Token} {word : Token} {rtype : ℕ} {data' : List Token}

@@ -5,7 +5,7 @@ use Rattle.std.proofs.Math.ListN.{drop_of_length-le}
 use Rattle.dns_text.specs.Rows.{TokenRow}
 use Rattle.dns_text.specs.Tokens.{is_end}
 use Rattle.dns_entry_scanner.specs.RowFound.{NoRow}
-use Rattle.dns_zonefile.specs.Entry.{Context, Entry}
+use Rattle.dns_zonefile.specs.Entry.{Context}
 use Rattle.dns_zonefile.specs.PassedOver.{behind_line}
 use Rattle.dns_scan.specs.Token.{Token}
 use Rattle.dns_entry_scanner.specs.NameInText.{SpellsUnder}
@@ -13,15 +13,12 @@ use Rattle.zone_general.proofs.FoundRows.{found_row}
 use Rattle.zone_general.proofs.RowTypes.{one_type}
 use Rattle.zone_general.specs.LongerRow.{HasType, IsGeneralRow, ScansLonger, Stands}
 use Rattle.zone_general.specs.LongerRow.IsGeneralRow.{same, further}
-use Rattle.zone_general.specs.Rewritten.{GoesGeneral}
 use Rattle.zone_general.specs.Rewritten.IsWrittenAs.{same as written_same}
-use Rattle.zone_general.specs.declared.longer_reader.RowForm.{RowForm}
-use Rattle.zone_general.specs.declared.longer_reader.RowForm.TheVariants.{Same, Further}
 use Rattle.zone_general.specs.Readable.{AppendsReadable, GoesReadable, HasNoGeneralRow, IsNoEntry, IsReadableOf}
 use Rattle.zone_general.specs.Readable.GoesReadable.{read, refused}
 use Rattle.zone_general.specs.Readable.{AppendsReadable as appends}
 use Rattle.zone_general.specs.Readable.IsReadableOf.{ended, bare, more, broken}
-use Rattle.zone_general.specs.Seen.{IsFound, octets_in, octets_of, row_in}
+use Rattle.zone_general.specs.Seen.{IsFound, octets_in, row_in}
 use Rattle.zone_general.specs.declared.found_row.FoundRow.{FoundRow}
 
 -- what is appended if there is memory
@@ -29,15 +26,6 @@ pub on_appended : {T E : Type 0} (result : Result T E) (new added old : List ℕ
     → OnOk result (new ≡ added)
 on_appended (Ok value) new added old is = is
 on_appended (Err error) new added old is = tt
-
--- a row that reads as it stands, and one by its general row
-module _ {context after : Context} {row : TokenRow} {octets : List ℕ} {entry : Entry} (form : RowForm) (others : List ℕ)
-    (told : GoesGeneral context row octets (octets_of form octets others) entry after) where
-  pub read_same : form ≡ Same → GoesReadable context row octets octets after
-  read_same is = read (subst (λ (f : RowForm). GoesGeneral context row octets (octets_of f octets others) entry after) is told)
-
-  pub read_further : form ≡ Further → GoesReadable context row octets others after
-  read_further is = read (subst (λ (f : RowForm). GoesGeneral context row octets (octets_of f octets others) entry after) is told)
 
 -- a row that stands is its general row
 pub refused_standing : {context : Context} (row : FoundRow) → IsFound row → Stands (row_in row) → IsNoEntry context (row_in row)

@@ -37,7 +37,7 @@ pub data Written (place : ℕ) (word text : List ℕ) (parts : List Part) (new :
 pub written_before : (index place : ℕ) (word text gap token : List ℕ) → index < place → written_part index place word text gap token ≡ gap ++ token
 written_before index place word text gap token less = rw (lt-ltb index place less) refl
 
-written_type : (index place : ℕ) (word text gap token : List ℕ) → index ≡ place → written_part index place word text gap token ≡ gap ++ word
+pub written_type : (index place : ℕ) (word text gap token : List ℕ) → index ≡ place → written_part index place word text gap token ≡ gap ++ word
 written_type index place word text gap token same = rw (le-ltb index place (omega arith), eq-eqb index place same) refl
 
 written_data : (index place : ℕ) (word text gap token : List ℕ) → index ≡ place + 1 → written_part index place word text gap token ≡ spaced gap ++ text

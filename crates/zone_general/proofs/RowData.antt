@@ -1,5 +1,5 @@
 -- The data of a row.
-use Rattle.std.proofs.Common.{◌≡◌, ◌≢◌, ◌-◌, ◌≤◌, ◌∷◌, ◌++◌, ◌∙◌, ◌↔◌, ℕ, zero, suc, Bool, List, [], drop, take, length, map, ap, sym, subst, refl, IsTrue, Ok, Err}
+use Rattle.std.proofs.Common.{◌≡◌, ◌≢◌, ◌-◌, ◌≤◌, ◌∷◌, ◌++◌, ◌∙◌, ◌↔◌, ℕ, zero, suc, Bool, List, [], drop, take, length, map, ap, sym, subst, refl, append-nil, IsTrue, Ok, Err}
 use Rattle.std.specs.Prelude.{Option, Result, OnOk, IfErr}
 use Rattle.std.proofs.lemmas.List.{drop-map, take_rest}
 use Rattle.dns_scan.specs.Token.{SameNames, Token, marker}
@@ -7,6 +7,7 @@ use Rattle.dns_scan.specs.UnknownData.{IsUnknownData}
 use Rattle.dns_entry_scanner.specs.NameInText.{SpellsUnder}
 use Rattle.dns_entry_scanner.specs.TokenSpan.{token_in}
 use Rattle.dns_entry_scanner.specs.declared.token_span.TokenSpan.{TokenSpan}
+use Rattle.dns_field_texts.specs.Appended.{GoesOn}
 use Rattle.dns_fields.specs.Fields.{Field}
 use Rattle.dns_fields.specs.Fields.{octets as octets_of}
 use Rattle.dns_fields_more.specs.Text.{AppendsFurther, NoFurtherScans, ScansFurther}
@@ -130,3 +131,7 @@ module _ {names others : Names} {rtype : ℕ} {given tokens : List Token} (same 
   pub no_fields_there : HasNoFields others rtype given → HasNoFields names rtype tokens
   no_fields_there none' row scans =
       none' row (further_there (swap same) (subst (λ (l : List Token). ScansFurther names rtype row l []) (sym tokens_are) scans))
+
+-- nothing was appended
+pub goes_kept : {old new : List ℕ} → new ≡ old → GoesOn old new
+goes_kept {old} same = record { more = []; is = same ∙ sym (append-nil old) }

@@ -1,5 +1,6 @@
 -- A place in the row that was found, and what was appended for the parts before it.
-use Rattle.std.proofs.Common.{◌≡◌, ◌+◌, ◌-◌, ◌*◌, ◌<◌, ◌≤◌, ℕ, zero, suc, Bool, true, false, List, [], ◌∷◌, ◌++◌, if◌then◌else◌, get_or, length, min, take, drop, refl, sym, ◌∙◌, ap, subst, arith, append_assoc, append-nil, length-append, length-drop}
+use Rattle.std.proofs.Common.{◌≡◌, ◌⊎◌, inl, inr, Some, ◌+◌, ◌-◌, ◌*◌, ◌<◌, ◌≤◌, ℕ, zero, suc, Bool, true, false, List, [], ◌∷◌, ◌++◌, if◌then◌else◌, get_or, length, min, take, drop, refl, sym, ◌∙◌, ap, subst, arith, append_assoc, append-nil, length-append, length-drop}
+use Rattle.std.specs.Prelude.{slice_get}
 use Rattle.std.proofs.lemmas.List.{drop_more, length-map}
 use Rattle.std.proofs.Math.Seq.{take-append_seam}
 use Rattle.dns_entry_scanner.specs.Gap.{end_in, first_of}
@@ -9,12 +10,14 @@ use Rattle.dns_entry_scanner.proofs.Rows.{next_shorter}
 use Rattle.dns_entry_scanner.specs.TokenEnd.{between}
 use Rattle.dns_entry_scanner.specs.TokenSpan.{token_in}
 use Rattle.dns_entry_scanner.specs.declared.token_span.TokenSpan.{TokenSpan}
+use Rattle.dns_scan.specs.Token.{Token, unquoted}
 use Rattle.zone_general.specs.Parts.{token_octets}
 use Rattle.zone_general.specs.Seen.{IsFound, RewritesAt, octets_in, tokens_in}
 use Rattle.zone_general.specs.WrittenPart.{GoesOver, place_at, written_none, written_part}
 use Rattle.zone_general.specs.declared.found_row.FoundRow.{FoundRow}
-use Rattle.zone_general.proofs.RewrittenSteps.{Gone, gone_all, gone_next, gone_none, last_at, length-token_octets, same_front, split_between, written_before}
+use Rattle.zone_general.proofs.RewrittenSteps.{Gone, gone_all, gone_next, gone_none, last_at, length-token_octets, same_front, split_between, written_before, written_type}
 use Rattle.zone_general.proofs.RowParts.{cut_token}
+use Rattle.zone_general.proofs.RowTypes.{token_at}
 
 -- The place is after the parts that were gone over.
 pub record Going (row : FoundRow) (place : ℕ) (word text : List ℕ) (inside : Bool) (behind index : ℕ) (old now : List ℕ) : Type 0 where
@@ -166,6 +169,18 @@ first_span {text} {inside} {behind} {next} {span} {others} (token {out = out} fi
       ends = omega (arith, some);
     }
 
+-- a token ends behind where the gap before it begins
+ends_behind : {text : List ℕ} {inside : Bool} {behind next : ℕ} {span : TokenSpan} {others : List TokenSpan}
+    → (at : FirstSpan text inside behind span others next) → behind ≤ end_in text span
+ends_behind {text} {behind = behind} {span = span} at =
+    let octets = token_octets at.over.token in
+    let rest = drop (end_in text span) text in
+    let gap = between behind (first_of span) text in
+    let size : length text - behind ≡ length gap + (length octets + (length text - end_in text span)) =
+    sym (length-drop behind text) ∙ ap (length {A = ℕ}) at.over.whole ∙ length-append gap (octets ++ rest)
+    ∙ ap (λ n. length gap + n) (length-append octets rest ∙ ap (λ n. length octets + n) (length-drop (end_in text span) text)) in
+    omega (arith, size, at.ends, at.order, at.within)
+
 -- The place is behind the tokens before the index, and those from it on are next.
 pub record Reached (row : FoundRow) (place : ℕ) (word text : List ℕ) (behind index : ℕ) (old now : List ℕ) : Type 0 where
   pub inside : Bool
@@ -228,6 +243,74 @@ reached_before row place word text old found default (suc index) few within =
 pub reached_type : {row : FoundRow} {place : ℕ} {word text old : List ℕ} {behind : ℕ} → ReachedBefore row place word text behind place old
     → (now : List ℕ) → now ≡ old ++ between row.place behind row.text.now → Reached row place word text behind place old now
 reached_type so now is = record { inside = so.inside; going = before_all so.before (omega arith) now is; placed = so.placed }
+
+-- the word of the type stays, since it is the word that is written
+pub reached_word : {row : FoundRow} {place : ℕ} {word text old : List ℕ} {behind : ℕ} (so : ReachedBefore row place word text behind place old)
+    (default : TokenSpan) → place < length row.spans.now → (get_or row.spans.now place default).quoted ≡ false
+    → (token_in row.text.now (get_or row.spans.now place default)).text ≡ word → (now : List ℕ)
+    → now ≡ old ++ between row.place (end_in row.text.now (get_or row.spans.now place default)) row.text.now
+    → Reached row place word text (end_in row.text.now (get_or row.spans.now place default)) (place + 1) old now
+reached_word {row} {place} {word} {text} {old} {behind} so default less bare own now is =
+    let span = get_or row.spans.now place default in
+    let front = old ++ between row.place behind row.text.now in
+    let there = reached_type so front refl in
+    let at = here there default less in
+    let gap = between behind (first_of span) row.text.now in
+    let octets : token_octets at.over.token ≡ word =
+    ap token_octets at.token_is ∙ ap (λ (b : Bool). if b then 34 ∷ ((token_in row.text.now span).text ++ 34 ∷ []) else (token_in row.text.now span).text) bare ∙ own in
+    let more = between_more row.text.now row.place behind (end_in row.text.now span) gap (token_octets at.over.token) so.before.order
+    (ends_behind at) at.over.whole in
+    let whole : now ≡ front ++ (gap ++ word) =
+    is ∙ ap (λ (l : List ℕ). old ++ l) (more ∙ ap (λ (l : List ℕ). between row.place behind row.text.now ++ (gap ++ l)) octets)
+    ∙ sym (append_assoc old (between row.place behind row.text.now) (gap ++ word)) in
+    reached_on there default less gap now refl (λ token. whole ∙ ap (λ (l : List ℕ). front ++ l) (sym (written_type place place word text gap token refl)))
+
+-- the row begins before each place in it
+pub place_order : (row : FoundRow) (index : ℕ) → IsFound row → TokenSpan → index ≤ length row.spans.now
+    → row.place ≤ place_at row.text.now row.place row.spans.now index
+place_order row index found default within =
+    let so = reached_before row index [] [] [] found default index (omega arith) within in so.before.order
+
+-- the first token that may be another one
+module _ {place first : ℕ} {P : Type 0} (begins : (first ≡ place) ⊎ ((first ≡ place + 1) × P)) where
+  pub first_behind : place ≤ first
+  first_behind = elim begins [
+    | inl at ↦ omega (arith, at)
+    | inr behind ↦ (let at = behind.0 in omega (arith, at))
+  ]
+
+  pub first_within : (count : ℕ) → place < count → first ≤ count
+  first_within count less = elim begins [
+    | inl at ↦ omega (arith, at, less)
+    | inr behind ↦ (let at = behind.0 in omega (arith, at, less))
+  ]
+
+-- where the row begins to be rewritten: at its type, or behind it if its word stays
+pub reached_first : (row : FoundRow) (place first : ℕ) (word text old now : List ℕ) → IsFound row → TokenSpan → place < length row.spans.now
+    → (first ≡ place) ⊎ ((first ≡ place + 1) × (slice_get (tokens_in row) place ≡ Some (unquoted word)))
+    → now ≡ old ++ between row.place (place_at row.text.now row.place row.spans.now first) row.text.now
+    → Reached row place word text (place_at row.text.now row.place row.spans.now first) first old now
+reached_first row place first word text old now found default less begins is = elim begins [
+  | inl at ↦
+      let there = reached_before row place word text old found default place (omega arith) (omega (arith, less)) in
+      let same : place ≡ first = sym at in
+      subst (λ (n : ℕ). Reached row place word text (place_at row.text.now row.place row.spans.now n) n old now) same
+      (reached_type there now
+      (subst (λ (n : ℕ). now ≡ old ++ between row.place (place_at row.text.now row.place row.spans.now n) row.text.now) at is))
+  | inr behind ↦
+      let there = reached_before row place word text old found default place (omega arith) (omega (arith, less)) in
+      let span = get_or row.spans.now place default in
+      let token : Some (token_in row.text.now span) ≡ Some (unquoted word) = sym (token_at row.text.now row.spans.now place default less) ∙ behind.1 in
+      let one : token_in row.text.now span ≡ unquoted word = cc in
+      let next : suc place ≡ first = (let at = behind.0 in omega (arith, at)) in
+      let plus : place + 1 ≡ first = sym behind.0 in
+      let end : end_in row.text.now span ≡ place_at row.text.now row.place row.spans.now first =
+      place_next row.text.now row.place row.spans.now place default less ∙ ap (place_at row.text.now row.place row.spans.now) next in
+      subst (λ (n : ℕ). Reached row place word text n first old now) end
+      (subst (λ (n : ℕ). Reached row place word text (end_in row.text.now span) n old now) plus
+      (reached_word there default less (ap (λ (t : Token). t.quoted) one) (ap (λ (t : Token). t.text) one) now
+      (is ∙ ap (λ (n : ℕ). old ++ between row.place n row.text.now) (sym end))))
+]
 
 -- at the end of the row
 pub record Ending (row : FoundRow) (place : ℕ) (word text : List ℕ) (behind : ℕ) (old now : List ℕ) : Type 0 where

@@ -3,7 +3,7 @@ use mir.Val.{bool_byte}
 use Rattle.std.proofs.Common.{◌≡◌, ◌+◌, ◌<◌, ◌≤◌, ◌∷◌, ◌++◌, ◌∙◌, ℕ, zero, suc, Bool, true, false, not, List, [], Some, length, drop, get_or, is_some, map, take, add-one, length-append, ap, sym, refl, subst, arith}
 use Rattle.std.specs.Prelude.{slice_get}
 use Rattle.std.specs.List.{AllByRecursion}
-use Rattle.std.proofs.lemmas.List.{append_cancel_right, take_all, length-map}
+use Rattle.std.proofs.lemmas.List.{append_cancel_right, take_all, take_at, length-map}
 use Rattle.dns_values.specs.Mnemonic.{type_read}
 use Rattle.dns_field_texts.specs.TypeWords.{type_word_read}
 use Rattle.dns_scan.specs.Token.{Token}
@@ -190,3 +190,6 @@ type_within row has =
 
 pub data_at : (row : FoundRow) {kind : RowType} (has : HasTypeAt (row_in row) kind) → drop (kind.index + 1) (tokens_in row) ≡ has.data'
 data_at row {kind} has = data_from kind.index has.front has.word has.data' (tokens_in row) has.has.is has.place
+
+pub front_at : (row : FoundRow) {kind : RowType} (has : HasTypeAt (row_in row) kind) → take kind.index (tokens_in row) ≡ has.front
+front_at row {kind} has = ap (take kind.index) has.has.is ∙ take_at has.front (has.word ∷ has.data') kind.index (sym has.place)

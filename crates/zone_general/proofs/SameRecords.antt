@@ -40,7 +40,7 @@ pub record IsKnownWord (rtype : ℕ) (token : Token) : Type 0 where
   pub bare : token.quoted ≡ false
   pub reads : type_read token.text ≡ Some rtype
 
-known_type : {rtype : ℕ} {token : Token} → IsKnownWord rtype token → IsType rtype token
+pub known_type : {rtype : ℕ} {token : Token} → IsKnownWord rtype token → IsType rtype token
 known_type {rtype} {token} is =
     let bare = is.bare in (
       token.text,

@@ -3,7 +3,7 @@ pub mod LongerRow
 pub mod LongerEntries
 pub mod Rewritten
 pub mod Readable
-pub mod StandIn
 pub mod RowFields
+pub mod Base16
 pub mod Seen
 pub mod WrittenPart

@@ -1,10 +1,10 @@
 -- The views of rows and readers. Only contracts inside the crate and `zone_forms` name them.
-use Rattle.std.specs.Prelude.{false, ◌≡◌, ◌+◌, ◌≤◌, ℕ, List, [], ◌∷◌, ◌++◌, length, map, drop, is_some}
+use Rattle.std.specs.Prelude.{false, ◌≡◌, ◌+◌, ◌≤◌, ℕ, List, ◌∷◌, ◌++◌, length, map, drop, is_some}
 use Rattle.std.specs.List.{flat_map}
 use Rattle.dns_label.specs.Octets.{AreOctets}
 use Rattle.dns_name.specs.UnknownText.{unknown_text}
 use Rattle.dns_values.specs.Mnemonic.{type_read}
-use Rattle.dns_scan.specs.Token.{Token, unquoted}
+use Rattle.dns_scan.specs.Token.{Token}
 use Rattle.dns_text.specs.Rows.{TokenRow}
 use Rattle.dns_entry_scanner.specs.RowFound.{IsRowAt}
 use Rattle.dns_entry_scanner.specs.TokenEnd.{between}
@@ -12,13 +12,11 @@ use Rattle.dns_entry_scanner.specs.TokenSpan.{token_in}
 use Rattle.dns_zonefile.specs.Entry.{Context}
 use Rattle.dns_zonefile.specs.Seen.{row_of}
 use Rattle.dns_zonefile.specs.Statement.{Names}
-use Rattle.zone_general.specs.LongerRow.{HasType, ScansLonger, general_tokens, known_word, with_tokens}
+use Rattle.zone_general.specs.LongerRow.{HasType, ScansLonger, known_word}
 use Rattle.zone_general.specs.Parts.{AreParts, Part, part_octets, row_octets, tokens_of}
-use Rattle.zone_general.specs.Rewritten.{AreRow, data_octets}
+use Rattle.zone_general.specs.Rewritten.{data_octets}
 use Rattle.zone_general.specs.declared.found_row.FoundRow.{FoundRow}
 use Rattle.zone_general.specs.declared.longer_reader.LongerReader.{LongerReader}
-use Rattle.zone_general.specs.declared.longer_reader.RowForm.{RowForm}
-use Rattle.zone_general.specs.declared.longer_reader.RowForm.TheVariants.{Same, Further}
 use Rattle.zone_general.specs.declared.stated_type.RowType.{RowType}
 
 -- the tokens of a row that was found
@@ -72,17 +70,6 @@ pub record WritesGeneral (names : Names) (row : FoundRow) (kind : RowType) (new 
       → word ≡ known_word stated rtype
   pub so : RewritesAt row kind.index word (unknown_text content) new
 
--- the octets are the general row of the row with no octets of data
-abbrev pub WritesNoData : FoundRow → RowType → List ℕ → Type 0
-WritesNoData row kind new =
-    (front : List Token) (word : Token) (data' : List Token) → HasType (row_in row) front word kind.rtype data'
-    → AreRow new (with_tokens (row_in row) (front ++ unquoted (known_word word kind.rtype) ∷ general_tokens []))
-
 -- what the rows so far have set
 abbrev pub context_in : LongerReader → Context
 context_in reader = reader.entries
-
--- the octets of the general row: the row's own, or others
-abbrev pub octets_of : RowForm → List ℕ → List ℕ → List ℕ
-octets_of Same octets others = octets
-octets_of Further octets others = others

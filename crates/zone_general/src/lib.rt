@@ -4,17 +4,17 @@
 //! A part of `zone_forms`. Its other functions are for that crate: a `FoundRow` is what `read_row` found in a text.
 #![tactic(auto)]
 
+mod base16;
 mod found_row;
 mod general_form;
 mod longer_reader;
 mod readable;
 mod rewriting;
 mod row_data;
-mod stand_in;
 mod stated_type;
 
 pub use found_row::FoundRow;
-pub use longer_reader::{LongerReader, RowForm};
+pub use longer_reader::LongerReader;
 pub use readable::{general_rows, is_want_of_memory};
 pub use rewriting::append_rewritten;
 pub use row_data::{is_marked, scan_data};

@@ -6,7 +6,7 @@ ghost use Rattle.zone_general.specs.Readable.{AppendsReadable, AppendsRefused, I
 ghost use Rattle.zone_general.specs.Seen.{IsFound, context_in, octets_in, row_in};
 
 use crate::found_row::FoundRow;
-use crate::longer_reader::{LongerReader, RowForm, further_type};
+use crate::longer_reader::{LongerReader, further_type};
 use dns_name::{Class, Name};
 use dns_zonefile::{EntryError, RowFound, next_line, read_row};
 use std::alloc::{AllocError, Global};
@@ -70,9 +70,8 @@ fn append_row(
     if row.spans.is_empty() {
         return out.extend_from_slice(row.octets());
     }
-    match reader.read_entry(row) {
-        Ok(RowForm::Same) => out.extend_from_slice(row.octets()),
-        Ok(RowForm::Further) => out.extend_from_slice(reader.general()),
+    match reader.read_entry(row, out) {
+        Ok(()) => Ok(()),
         Err(error) => {
             if is_want_of_memory(error) {
                 return Err(AllocError);
@@ -96,8 +95,8 @@ fn append_refused(
     let Some(kind) = further_type(row) else {
         return out.extend_from_slice(row.octets());
     };
-    match reader.write_general(row, kind) {
-        Ok(()) => out.extend_from_slice(reader.general()),
+    match reader.append_general(row, kind, out) {
+        Ok(()) => Ok(()),
         Err(error) => {
             if is_want_of_memory(error) {
                 return Err(AllocError);

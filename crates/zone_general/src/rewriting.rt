@@ -1,10 +1,11 @@
 //! Rows with other data.
-ghost use Rattle.std.specs.Prelude.{◌≡◌, ◌<◌, ◌≤◌, ◌++◌, ℕ, List, length, OnOk};
+ghost use Rattle.std.specs.Prelude.{◌≡◌, ◌⊎◌, ◌+◌, ◌<◌, ◌≤◌, ◌++◌, ℕ, List, Some, length, slice_get, IsTrue, OnOk};
+ghost use Rattle.dns_scan.specs.Token.{unquoted};
 ghost use Rattle.std.specs.List.{list_all};
 ghost use Rattle.dns_entry_scanner.specs.Gap.{end_in, first_of};
 ghost use Rattle.dns_text.specs.Tokens.{is_gap};
 ghost use Rattle.zone_general.specs.Rewritten.{kept};
-ghost use Rattle.zone_general.specs.Seen.{IsFound, RewritesAt};
+ghost use Rattle.zone_general.specs.Seen.{IsFound, RewritesAt, tokens_in};
 ghost use Rattle.zone_general.specs.WrittenPart.{place_at, written_none, written_part};
 
 use crate::found_row::FoundRow;
@@ -26,10 +27,38 @@ pub fn append_rewritten(
     requires within { type_index < length row.spans.now }
     ensures { OnOk result ((new : List ℕ) × RewritesAt row.entry type_index word.now data.now new × (out.new.items ≡ out.old.items ++ new)) }
 {
-    let mut behind = place_before(row, type_index);
-    // The row is the same up to here.
+    if has_word(row, type_index, word) {
+        return append_from(row, type_index + 1, type_index, word, data, out);
+    }
+    append_from(row, type_index, type_index, word, data, out)
+}
+
+/// Returns whether the token at the index is this word, not in quotes.
+fn has_word(row: FoundRow<'_>, index: usize, word: &[u8]) -> bool
+    requires { index < length row.spans.now }
+    ensures { IsTrue result → slice_get (tokens_in row.entry) index ≡ Some (unquoted word.now) }
+{
+    !row.spans[index].is_quoted() && row.token(index) == word
+}
+
+/// The same as `append_rewritten`. The row stays up to the token at `first`, which is that of the type, or if that is the word, the
+/// one behind it.
+fn append_from(
+    row: FoundRow<'_>,
+    first: usize,
+    type_index: usize,
+    word: &[u8],
+    data: &[u8],
+    out: &mut Vec<u8>,
+) -> Result<(), AllocError>
+    requires found { IsFound row }
+    requires within { type_index < length row.spans.now }
+    requires first { (first ≡ type_index) ⊎ ((first ≡ type_index + 1) × (slice_get (tokens_in row) type_index ≡ Some (unquoted word.now))) }
+    ensures { OnOk result ((new : List ℕ) × RewritesAt row.entry type_index word.now data.now new × (out.new.items ≡ out.old.items ++ new)) }
+{
+    let mut behind = place_before(row, first);
     out.extend_from_slice(&row.text[row.place..behind])?;
-    for index in type_index..row.spans.len() {
+    for index in first..row.spans.len() {
         let span = &row.spans[index];
         let gap = &row.text[behind..first_place(span)];
         append_part(index, type_index, word, data, gap, out)?;
@@ -41,7 +70,7 @@ pub fn append_rewritten(
 
 /// Returns the place at which the gap before the token at the index begins: behind the token before it, or where the row begins.
 fn place_before(row: FoundRow<'_>, index: usize) -> usize
-    requires { index < length row.spans.now }
+    requires { index ≤ length row.spans.now }
     ensures { result ≡ place_at row.entry.text.now row.entry.place row.entry.spans.now index }
 {
     if index == 0 {

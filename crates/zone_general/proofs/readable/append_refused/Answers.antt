@@ -21,16 +21,16 @@ returns-in_default-clause-goes c =
 
 pub returns-in-Ok-clause-goes : goal.returns-in-Ok-clause-goes
 returns-in-Ok-clause-goes c =
-    on_ok_weaker c.extend_from_slice-in-Ok.result _ _
-    (λ appended. record {
-      others = c.write_general.new.self.general.items;
-      goes = refused c.requires.refused (has_general c.args.row c.in-Some.ensures.some c.requires.found c.in-Ok.ensures.ok (c.in-Some.ensures.further refl));
-      appended = appended ∙ ap (λ (l : List ℕ). c.args.out.now.items ++ l) c.general.ensures;
-    }) (on_appended c.extend_from_slice-in-Ok.result _ _ _ c.extend_from_slice-in-Ok.ensures.items)
+    let writes = c.in-Ok.ensures.ok in record {
+      others = writes.0;
+      goes = refused c.requires.refused (has_general c.args.row c.in-Some.ensures.some c.requires.found writes.1 (c.in-Some.ensures.further refl));
+      appended = writes.2;
+    }
 
 pub returns-else-is_want_of_memory-clause-goes : goal.returns-else-is_want_of_memory-clause-goes
 returns-else-is_want_of_memory-clause-goes c =
     let has = c.in-Some.ensures.some in
+    let kept = c.in-Err.ensures.kept (sym c.is_want_of_memory.ensures ∙ c.if-is_want_of_memory.false) in
     on_ok_weaker c.extend_from_slice-in-Err.result _ _
     (λ appended. record {
       others = octets_in c.args.row;
@@ -38,5 +38,5 @@ returns-else-is_want_of_memory-clause-goes c =
           (λ content scans. c.in-Err.ensures.err (sym c.is_want_of_memory.ensures ∙ c.if-is_want_of_memory.false) content
           (subst (λ (l : List Token). ScansLonger (SpellsUnder (context_in c.args.reader.now).origin) c.in-Some.kind.rtype l content)
           (sym (data_at c.args.row has)) scans)));
-      appended = appended ∙ ap (λ (l : List ℕ). c.args.out.now.items ++ l) c.octets-in-Err.ensures;
+      appended = appended ∙ (λ i. kept i ++ c.octets-in-Err.ensures i);
     }) (on_appended c.extend_from_slice-in-Err.result _ _ _ c.extend_from_slice-in-Err.ensures.items)

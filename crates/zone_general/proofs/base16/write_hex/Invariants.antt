@@ -1,0 +1,12 @@
+use Rattle.std.proofs.Common.{◌≡◌, ◌≤◌, ◌-◌, ◌*◌, take, length}
+use Rattle.dns_name.specs.UnknownText.{hex_of}
+use Rattle.zone_general.proofs.base16.write_hex.Given as goal
+
+abbrev pub invariant-loop-at : goal.invariant-loop-at
+invariant-loop-at l = (l.at ≤ length l.octets) × (take (2 * l.at) l.digits ≡ hex_of (take l.at l.octets))
+
+abbrev pub decreases-loop-at : goal.decreases-loop-at
+decreases-loop-at l = length l.octets - l.at
+
+abbrev pub invariant-loop-index : goal.invariant-loop-index
+invariant-loop-index l = take (2 * l.index) l.digits ≡ hex_of (take l.index l.octets)

@@ -1,0 +1,89 @@
+//! Octets in base 16, in capitals (RFC 4648 8).
+ghost use Rattle.std.specs.Prelude.{◌≡◌, ◌<◌, ◌≤◌, ◌*◌, ◌++◌, true, length, map, take, OnOk};
+ghost use Rattle.std.specs.Fmt.{digit_glyph};
+ghost use Rattle.std.specs.List.{AllByRecursion};
+ghost use Rattle.dns_name.specs.UnknownText.{hex_of};
+ghost use Rattle.zone_general.specs.Base16.{IsHexNumber};
+
+use std::alloc::AllocError;
+use std::simd::prelude::*;
+
+/// How many octets at most are written in base 16 before their digits are appended.
+const PIECE_LEN: usize = 64;
+
+/// How many octets are written in base 16 together.
+const LANES: usize = 16;
+
+/// Appends two hexadecimal digits, in capitals, for each octet.
+pub(crate) fn append_hex(octets: &[u8], text: &mut Vec<u8>) -> Result<(), AllocError>
+    ensures { OnOk result (text.new.items ≡ text.old.items ++ hex_of octets.now) }
+{
+    let mut digits = [0; 2 * PIECE_LEN];
+    let mut left = octets;
+    while !left.is_empty() {
+        let (piece, behind) = left.split_at(left.len().min(PIECE_LEN));
+        write_hex(piece, &mut digits);
+        text.extend_from_slice(&digits[..2 * piece.len()])?;
+        left = behind;
+    }
+    Ok(())
+}
+
+/// Writes two hexadecimal digits, in capitals, for each of at most 64 octets, from the start of `digits` on.
+fn write_hex(octets: &[u8], digits: &mut [u8; 2 * PIECE_LEN])
+    requires { length octets.now ≤ 64 }
+    ensures { take (2 * length octets.now) digits.new ≡ hex_of octets.now }
+{
+    let mut at = 0;
+    while octets.len() - at >= LANES {
+        digits[2 * at..2 * at + 2 * LANES].copy_from_slice(&sixteen_digits(&octets[at..]));
+        at += LANES;
+    }
+    for index in at..octets.len() {
+        digits[2 * index] = hex_digit(octets[index] / 16);
+        digits[2 * index + 1] = hex_digit(octets[index] % 16);
+    }
+}
+
+/// Returns the hexadecimal digit of a number, in capitals.
+fn hex_digit(number: u8) -> u8
+    requires { number < 16 }
+    ensures { result ≡ digit_glyph true number }
+{
+    if number < 10 {
+        b'0' + number
+    } else {
+        b'A' + (number - 10)
+    }
+}
+
+/// Returns the hexadecimal digits, in capitals, of the first sixteen octets.
+#[inline(always)]
+fn sixteen_digits(octets: &[u8]) -> [u8; 32]
+    requires { 16 ≤ length octets.now }
+    ensures { result ≡ hex_of (take 16 octets.now) }
+{
+    let octets = u8x16::from_slice(octets);
+    let high = digits_of(octets / u8x16::splat(16));
+    let low = digits_of(octets % u8x16::splat(16));
+    high.shuffle::<32>(
+        low,
+        [
+            0, 16, 1, 17, 2, 18, 3, 19, 4, 20, 5, 21, 6, 22, 7, 23, 8, 24, 9, 25, 10, 26, 11, 27,
+            12, 28, 13, 29, 14, 30, 15, 31,
+        ],
+    )
+    .to_array()
+}
+
+/// Returns the hexadecimal digits of sixteen numbers below 16, in capitals.
+#[inline(always)]
+fn digits_of(numbers: u8x16) -> u8x16
+    requires { AllByRecursion IsHexNumber numbers }
+    ensures { result ≡ map (digit_glyph true) numbers }
+{
+    numbers.simd_lt(u8x16::splat(10)).select(
+        numbers + u8x16::splat(b'0'),
+        numbers + u8x16::splat(b'A' - 10),
+    )
+}
