@@ -5,6 +5,10 @@ use zonewire::{DisplayKind, ReceiveError, Receiver};
 
 /// How many places at either end a long stream is cut at, too.
 const NEAR: usize = 4;
+/// How many octets a stream has at most that is cut at each place.
+const SHORT: usize = 1024;
+/// Which places a longer stream is cut at: the multiples of this.
+const EVERY: usize = 29;
 
 /// What a receiver makes of a stream.
 #[derive(PartialEq, Drop)]
@@ -18,12 +22,13 @@ struct Heard {
 
 /// Answers `Receiver QUERY STREAM`: the number of octets that are taken, whether they are a transfer, and its zone.
 ///
-/// The stream is fed whole, octet by octet, and cut once at each place, with empty pieces between. A row has no answer
-/// if these results differ.
+/// The stream is fed whole, octet by octet, and cut once at each place, with empty pieces between: at the first and the
+/// last places and at each multiple of `EVERY`, if it is longer than `SHORT`. A row has no answer if these results differ.
 pub fn answer(alloc: Global, row: &mut Row<'_>, out: &mut Answer) -> Result<(), RowError> {
     let query = row.octets(alloc)?;
     let stream = row.octets(alloc)?;
-    let heard = heard_everywhere(alloc, query.as_slice(), stream.as_slice(), 1)?;
+    let every = if stream.len() > SHORT { EVERY } else { 1 };
+    let heard = heard_everywhere(alloc, query.as_slice(), stream.as_slice(), every)?;
     show(&heard, false, out)
 }
 
