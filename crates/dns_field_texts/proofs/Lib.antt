@@ -3,6 +3,7 @@ pub mod TypeWords
 pub mod NumberedWords
 pub mod Calendar
 pub mod Moments
+mod DigitLanes
 mod TriedLocation
 pub mod HashWords
 mod LocationParts

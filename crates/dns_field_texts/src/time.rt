@@ -10,6 +10,7 @@ ghost use Rattle.dns_field_texts.specs.Time.{is_moment, days_of_years, days_of_m
 
 use crate::digits::{are_digits, as_digits};
 use std::fmt;
+use std::simd::prelude::*;
 
 /// How many times there are: 2^32.
 const TIMES: i64 = 4_294_967_296;
@@ -103,7 +104,7 @@ fn read_moment(text: &[u8]) -> Option<u32>
     requires { length text.now ≡ 14 }
     ensures { result ≡ of_time.moment_read text.now }
 {
-    if !are_digits(text) {
+    if !are_eight_digits(&text[..8]) || !are_eight_digits(&text[6..]) {
         return None;
     }
     let moment = moment_of(text);
@@ -112,6 +113,17 @@ fn read_moment(text: &[u8]) -> Option<u32>
     } else {
         None
     }
+}
+
+/// Returns whether eight octets are digits.
+#[inline(always)]
+fn are_eight_digits(octets: &[u8]) -> bool
+    requires { length octets.now ≡ 8 }
+    ensures { result ≡ list_all is_ascii_digit octets.now }
+{
+    (u8x8::from_slice(octets) - u8x8::splat(b'0'))
+        .simd_lt(u8x8::splat(10))
+        .all()
 }
 
 /// Returns the moment of 14 digits, which may be none of the calendar.
