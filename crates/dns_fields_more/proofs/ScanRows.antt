@@ -1,11 +1,13 @@
 -- A row's tokens, taken apart and put together form by form.
 use Rattle.std.proofs.Common.{◌≡◌, ℕ, List, [], ◌∷◌, ◌++◌, ◌∙◌, drop, refl, sym, ap, subst, append_assoc, append-nil}
-use Rattle.std.specs.Prelude.{Bool, false, Result, Ok, Err, OnOk, IfErr}
 use Rattle.dns_scan.specs.Token.{Token, SameNames}
+use Rattle.dns_scan.proofs.SymbolsRead.{same_names_join}
 use Rattle.dns_fields.specs.Fields.{Field, field_octets, octets, kind_of}
 use Rattle.dns_fields.specs.Scanned.{ScansField}
 use Rattle.dns_fields.proofs.FieldKinds.{of_number8, of_number16, of_number32, of_uncompressed, of_string, of_rest_text, of_rest16, of_rest64}
 use Rattle.dns_fields.proofs.ScanParts as parts
+use Rattle.dns_field_texts.specs.Appended.{GoesOn}
+use Rattle.dns_field_texts.proofs.AppendedBase64.{goes_join, goes_none}
 use Rattle.dns_fields_more.specs.Forms.{kind_of_form}
 use Rattle.dns_fields_more.specs.Text.{AppendsForm, AppendsForms, NoFormScans, NoFormsScan, ScansForm, ScansForms, ScansFurther, SpellsForm}
 use Rattle.dns_fields_more.specs.declared.form.Form.{Form}
@@ -145,16 +147,29 @@ no_others {old} {new} {form} {forms} {all} {tokens} {behind} is same first none 
         none row left
         (subst (λ l. ScansForms new forms row l left) place (forms_there (swap same) forms row scans.0 left scans.2))
 
-pub all_appended : {T E : Type 0} {old_names new_names : List ℕ → List (List ℕ) → Type 0} {form : Form} {forms all : List Form} {tokens behind : List Token}
-    {old middle : List ℕ} (left : List Token) (new : List ℕ) → all ≡ form ∷ forms → SameNames old_names new_names
-    → AppendsForm old_names form tokens behind old middle → (result : Result T E) → OnOk result (AppendsForms new_names forms behind left middle new)
-    → OnOk result (AppendsForms old_names all tokens left old new)
-all_appended left new is same first (Ok value) others = forms_appended is same first others
-all_appended left new is same first (Err error) others = tt
+-- The first fields are scanned, and those of the forms that are left are not yet.
+pub record ScansOn (old_names new_names : List ℕ → List (List ℕ) → Type 0) (all forms : List Form) (tokens behind : List Token) (old now : List ℕ) : Type 0 where
+  pub names : SameNames old_names new_names
+  pub on : (left : List Token) (new : List ℕ) → AppendsForms new_names forms behind left now new → AppendsForms old_names all tokens left old new
+  pub none : NoFormsScan new_names forms behind → NoFormsScan old_names all tokens
+  pub more : GoesOn old now
 
-pub none_appended_all : {T E : Type 0} {old_names new_names : List ℕ → List (List ℕ) → Type 0} {form : Form} {forms all : List Form} {tokens behind : List Token}
-    {old middle : List ℕ} (is_short : E → Bool) → all ≡ form ∷ forms → SameNames old_names new_names → AppendsForm old_names form tokens behind old middle
-    → (result : Result T E) → IfErr result (λ error. is_short error ≡ false → NoFormsScan new_names forms behind)
-    → IfErr result (λ error. is_short error ≡ false → NoFormsScan old_names all tokens)
-none_appended_all is_short is same first (Ok value) none = tt
-none_appended_all is_short is same first (Err error) none = λ short. no_others is same first (none short)
+pub scans_none : (names : List ℕ → List (List ℕ) → Type 0) (forms : List Form) (tokens : List Token) (old : List ℕ)
+    → ScansOn names names forms forms tokens tokens old old
+scans_none names forms tokens old = record {
+  names = λ text name. (λ is. is, λ is. is);
+  on = λ left new is. is;
+  none = λ none. none;
+  more = goes_none old;
+}
+
+pub scans_form : {old_names middle_names new_names : List ℕ → List (List ℕ) → Type 0} {form : Form} {all forms others : List Form}
+    {tokens behind next : List Token} {old now new : List ℕ} → ScansOn old_names middle_names all forms tokens behind old now → forms ≡ form ∷ others
+    → SameNames middle_names new_names → AppendsForm middle_names form behind next now new → GoesOn now new
+    → ScansOn old_names new_names all others tokens next old new
+scans_form so is same first more = record {
+  names = same_names_join _ _ _ so.names same;
+  on = λ left last appends. so.on left last (forms_appended is same first appends);
+  none = λ none. so.none (no_others is same first none);
+  more = goes_join so.more more;
+}

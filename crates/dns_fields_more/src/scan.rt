@@ -36,13 +36,14 @@ pub(crate) fn scan_forms<S: EntryScanner>(
     ensures names { SameNames (S.names scanner.old) (S.names scanner.new) }
     ensures more { GoesOn octets.old.items octets.new.items }
 {
-    let Some((form, others)) = forms.split_first() else {
-        return Ok(());
-    };
-    match scan_form(*form, scanner, octets) {
-        Ok(()) => scan_forms(others, scanner, octets),
-        Err(error) => Err(error),
+    let mut left = forms;
+    while let Some((form, others)) = left.split_first() {
+        match scan_form(*form, scanner, octets) {
+            Ok(()) => left = others,
+            Err(error) => return Err(error),
+        }
     }
+    Ok(())
 }
 
 /// Scans a field of the form.
