@@ -1,30 +1,11 @@
 -- Lines of a text, and the line feeds that end them.
-use Rattle.std.proofs.Common.{◌≡◌, ◌+◌, ◌<◌, ◌≤◌, ◌==◌, ◌∙◌, ℕ, suc, Bool, true, false, if◌then◌else◌, List, [], ◌∷◌, length, drop, refl, sym, ap, arith, length-drop}
-use Rattle.std.proofs.lemmas.Bool.{eqb-true}
-use Rattle.std.proofs.lemmas.List.{drop-drop, drop_all}
+use Rattle.std.proofs.Common.{◌≡◌, ◌+◌, ◌%◌, ◌<◌, ◌≤◌, ◌==◌, ◌∙◌, ℕ, suc, Bool, true, false, cond, if◌then◌else◌, List, [], ◌∷◌, ◌++◌, map, nat_eq, length, take, drop, refl, sym, subst, ap, arith, length-append}
+use Rattle.std.proofs.lemmas.List.{drop-drop, drop_all, take-append-drop}
 use Rattle.dns_text.specs.Tokens.{from_feed}
 use Rattle.dns_zonefile.specs.PassedOver.{behind_line}
 use Rattle.dns_zonefile.specs.Reader.{line_behind}
-
-first_by : (octet : ℕ) (text : List ℕ) (feed : Bool) → (octet == 10) ≡ feed
-    → (0 < length (from_feed text) → from_feed text ≡ 10 ∷ drop 1 (from_feed text))
-    → 0 < length (if feed then octet ∷ text else from_feed text)
-    → (if feed then octet ∷ text else from_feed text) ≡ 10 ∷ drop 1 (if feed then octet ∷ text else from_feed text)
-first_by octet text true is others some = ap (λ n. n ∷ text) (eqb-true octet 10 is)
-first_by octet text false is others some = others some
-
-feed_first : (text : List ℕ) → 0 < length (from_feed text) → from_feed text ≡ 10 ∷ drop 1 (from_feed text)
-feed_first [] some = absurd (omega (arith, some))
-feed_first (octet ∷ text) some = first_by octet text (octet == 10) refl (feed_first text) some
-
-lines_by : (octet : ℕ) (text : List ℕ) (feed : Bool) → (octet == 10) ≡ feed → line_behind text ≡ line_behind (from_feed text)
-    → (if feed then suc (line_behind text) else line_behind text) ≡ line_behind (if feed then octet ∷ text else from_feed text)
-lines_by octet text true is same = sym (ap (λ b. if b then suc (line_behind text) else line_behind text) is)
-lines_by octet text false is same = same
-
-lines_feed : (text : List ℕ) → line_behind text ≡ line_behind (from_feed text)
-lines_feed [] = refl
-lines_feed (octet ∷ text) = lines_by octet text (octet == 10) refl (lines_feed text)
+use lib.Lanes.{fold_l, sel_l, top, zip2}
+use lib.ListN.{replicate}
 
 behind_by : (octet : ℕ) (text : List ℕ) (feed : Bool) → behind_line text ≡ drop 1 (from_feed text)
     → (if feed then text else behind_line text) ≡ drop 1 (if feed then octet ∷ text else from_feed text)
@@ -43,37 +24,55 @@ pub line_ended : (text : List ℕ) (place end : ℕ) → drop end text ≡ from_
 line_ended text place end is last =
     let none = drop_all end text last in none ∙ sym (behind_feed (drop place text) ∙ ap (drop {A = ℕ} 1) (sym is ∙ none))
 
--- the line of a text's line feed, and the lines behind it
-pub record AtFeed (text : List ℕ) (line end : ℕ) : Type 0 where
-  pub lines : line + line_behind (drop end text) ≡ line_behind text + 1
-  pub few : line ≤ end + 1
-  pub within : end ≤ length text
-  pub feed : 0 < length (drop end text) → drop end text ≡ 10 ∷ drop 1 (drop end text)
+-- a block in front of others
+pub block_front : (size : ℕ) (text block behind : List ℕ) → block ≡ take size text → behind ≡ drop size text → text ≡ block ++ behind
+block_front size text block behind is left = sym (take-append-drop size text) ∙ ap (λ l. l ++ drop size text) (sym is) ∙ ap (λ l. block ++ l) (sym left)
 
-from_feed_at : (text : List ℕ) (end : ℕ) (before : List ℕ) → drop end text ≡ from_feed before → 0 < length (drop end text)
-    → drop end text ≡ 10 ∷ drop 1 (drop end text)
-from_feed_at text end before is some =
-    is ∙ feed_first before (omega (arith, some, ap (length {A = ℕ}) is)) ∙ ap (λ l. 10 ∷ drop {A = ℕ} 1 l) (sym is)
+-- the line feeds of a vector: a one in each lane that is one
+abbrev mark : ℕ → ℕ → ℕ
+mark octet feed = cond (nat_eq octet feed) 255 0
 
-pub feed_none : (text : List ℕ) (end : ℕ) → drop end text ≡ from_feed text → end ≤ length text → AtFeed text 1 end
-feed_none text end is within = record {
-  lines = omega (arith, lines_feed text, ap line_behind is);
-  few = omega arith;
-  within = within;
-  feed = from_feed_at text end text is;
-}
+abbrev pub ones : ℕ → List ℕ → List ℕ
+ones size octets = sel_l (map (top 7) (zip2 mark octets (replicate size 10))) (replicate size 1) (replicate size 0)
 
-pub feed_more : {text : List ℕ} {line end : ℕ} → AtFeed text line end → end < length text → (next : ℕ)
-    → drop next text ≡ from_feed (drop (end + 1) text) → end + 1 ≤ next → next ≤ length text → AtFeed text (line + 1) next
-feed_more {text} {line} {end} at some next is behind within =
-    let here : drop end text ≡ 10 ∷ drop (end + 1) text =
-    at.feed (omega (arith, some, length-drop end text)) ∙ ap (λ l. 10 ∷ l) (drop-drop 1 end text) in
-    let more : line_behind (drop end text) ≡ suc (line_behind (drop (end + 1) text)) = ap line_behind here in record {
-      lines = omega (arith, at.lines, more, lines_feed (drop (end + 1) text), ap line_behind is);
-      few = omega (arith, at.few, behind);
-      within = within;
-      feed = from_feed_at text next (drop (end + 1) text) is;
-    }
+abbrev pub added : ℕ → ℕ → ℕ
+added sum lane = (sum + lane) % 256
 
-pub feed_last : {text : List ℕ} {line end : ℕ} → AtFeed text line end → length text ≤ end → line ≡ line_behind text
-feed_last {text} {line} {end} at last = omega (arith, at.lines, ap line_behind (drop_all end text last))
+abbrev Counted : List ℕ → List ℕ → ℕ → Type 0
+Counted octets behind sum = line_behind (octets ++ behind) + sum ≡ fold_l added sum (ones (length octets) octets) + line_behind behind
+
+feeds_by : (octets behind : List ℕ) (sum : ℕ) (feed : Bool) → sum + suc (length octets) < 256 → ((sum : ℕ) → sum + length octets < 256 → Counted octets behind sum)
+    → (if feed then suc (line_behind (octets ++ behind)) else line_behind (octets ++ behind)) + sum
+    ≡ fold_l added (added sum (cond (top 7 (cond feed 255 0)) 1 0)) (ones (length octets) octets) + line_behind behind
+feeds_by octets behind sum true few others =
+    let same : (sum + 1) % 256 ≡ sum + 1 = omega (arith, few) in
+    subst (λ n. suc (line_behind (octets ++ behind)) + sum ≡ fold_l added n (ones (length octets) octets) + line_behind behind) (sym same)
+    (omega (arith, others (sum + 1) (omega (arith, few))))
+feeds_by octets behind sum false few others =
+    let same : (sum + 0) % 256 ≡ sum = omega (arith, few) in
+    subst (λ n. line_behind (octets ++ behind) + sum ≡ fold_l added n (ones (length octets) octets) + line_behind behind) (sym same)
+    (others sum (omega (arith, few)))
+
+feeds_counted : (octets behind : List ℕ) (sum : ℕ) → sum + length octets < 256 → Counted octets behind sum
+feeds_counted [] behind sum few = omega arith
+feeds_counted (octet ∷ octets) behind sum few =
+    feeds_by octets behind sum (octet == 10) few (λ sum few. feeds_counted octets behind sum few)
+
+pub block_feeds : (octets : List ℕ) → length octets ≡ 64 → (behind : List ℕ)
+    → line_behind (octets ++ behind) ≡ fold_l added 0 (ones 64 octets) + line_behind behind
+block_feeds octets long behind =
+    let is = subst (λ n. line_behind (octets ++ behind) + 0 ≡ fold_l added 0 (ones n octets) + line_behind behind) long
+    (feeds_counted octets behind 0 (omega (arith, long))) in omega (arith, is)
+
+lines_few_by : (octets : List ℕ) (feed : Bool) → line_behind octets ≤ length octets + 1
+    → (if feed then suc (line_behind octets) else line_behind octets) ≤ suc (length octets) + 1
+lines_few_by octets true few = omega (arith, few)
+lines_few_by octets false few = omega (arith, few)
+
+lines_few : (octets : List ℕ) → line_behind octets ≤ length octets + 1
+lines_few [] = omega arith
+lines_few (octet ∷ octets) = lines_few_by octets (octet == 10) (lines_few octets)
+
+-- no more than one for each octet
+pub feeds_few : (octets : List ℕ) (feeds : ℕ) → line_behind (octets ++ []) ≡ feeds + line_behind [] → feeds ≤ length octets
+feeds_few octets feeds is = omega (arith, is, lines_few (octets ++ []), length-append {A = ℕ} octets [])

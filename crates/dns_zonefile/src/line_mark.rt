@@ -1,10 +1,14 @@
 //! Lines of a text.
-ghost use Rattle.std.specs.Prelude.{◌≡◌, ◌<◌, ◌≤◌, ℕ, List, drop, length};
+ghost use Rattle.std.specs.Prelude.{◌≡◌, ◌<◌, ◌≤◌, ◌+◌, ◌++◌, ℕ, List, drop, length};
 ghost use Rattle.dns_zonefile.specs.LineMark.{MarksLine};
 ghost use Rattle.dns_zonefile.specs.PassedOver.{behind_line};
 ghost use Rattle.dns_zonefile.specs.Reader.{line_at, line_behind as spec_line_behind};
 
 use dns_entry_scanner::line_end;
+use std::simd::prelude::*;
+
+/// How many octets are searched for line feeds together.
+const BLOCK_LEN: usize = 64;
 
 /// An offset in a text and the number of its line, from which lines are counted on.
 #[derive(Clone, Copy, Debug)]
@@ -69,10 +73,27 @@ fn line_behind(before: &[u8]) -> usize
     ensures { result ≡ spec_line_behind before.now }
 {
     let mut line = 1;
-    let mut end = line_end(before, 0);
-    while end < before.len() {
-        line += 1;
-        end = line_end(before, end + 1);
+    let mut left = before;
+    while let Some((block, behind)) = left.split_first_chunk::<BLOCK_LEN>() {
+        line += feeds_in(block);
+        left = behind;
+    }
+    while let Some((&octet, behind)) = left.split_first() {
+        if octet == b'\n' {
+            line += 1;
+        }
+        left = behind;
     }
     line
+}
+
+/// Returns how many line feeds are in a block.
+#[inline(always)]
+fn feeds_in(block: &[u8; BLOCK_LEN]) -> usize
+    ensures feeds { (behind : List ℕ) → spec_line_behind (block.now ++ behind) ≡ result + spec_line_behind behind }
+    ensures few { result ≤ length block.now }
+{
+    let feeds = u8x64::from_slice(block).simd_eq(u8x64::splat(b'\n'));
+    let ones = feeds.select(u8x64::splat(1), u8x64::splat(0));
+    usize::from(ones.reduce_sum())
 }

@@ -1,9 +1,15 @@
-use Rattle.std.proofs.Common.{◌-◌, length}
-use Rattle.dns_zonefile.proofs.Lines.{AtFeed}
+use Rattle.std.proofs.Common.{◌≡◌, ◌+◌, ◌≤◌, length}
+use Rattle.dns_zonefile.specs.Reader.{line_behind}
 use Rattle.dns_zonefile.proofs.line_mark.line_behind.Given as goal
 
-abbrev pub invariant-loop-end : goal.invariant-loop-end
-invariant-loop-end l = AtFeed l.before l.line l.end
+abbrev pub invariant-loop-block : goal.invariant-loop-block
+invariant-loop-block l = (l.line + line_behind l.left ≡ line_behind l.before + 1) × (l.line + length l.left ≤ length l.before + 1)
 
-abbrev pub decreases-loop-end : goal.decreases-loop-end
-decreases-loop-end l = length l.before - l.end
+abbrev pub decreases-loop-block : goal.decreases-loop-block
+decreases-loop-block l = length l.left
+
+abbrev pub invariant-loop-octet : goal.invariant-loop-octet
+invariant-loop-octet l = (l.line + line_behind l.left ≡ line_behind l.before + 1) × (l.line + length l.left ≤ length l.before + 1)
+
+abbrev pub decreases-loop-octet : goal.decreases-loop-octet
+decreases-loop-octet l = length l.left
