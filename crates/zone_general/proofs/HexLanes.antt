@@ -4,7 +4,7 @@ use Rattle.std.specs.Fmt.{digit_glyph}
 use Rattle.std.specs.List.{AllByRecursion}
 use Rattle.std.proofs.lemmas.Bool.Decides.{nat_tests}
 use Rattle.std.proofs.lemmas.Grind.{flat_map-append}
-use Rattle.std.proofs.lemmas.List.{length-take-le, length-drop}
+use Rattle.std.proofs.lemmas.List.{length-take-le, length-drop, take-take, take_all, take_at}
 use Rattle.std.proofs.lemmas.Slice.{take-put_mid}
 use Rattle.std.proofs.Math.Seq.{take-add}
 use Rattle.dns_name.specs.UnknownText.{hex_of}
@@ -57,3 +57,29 @@ piece_written digits octets new at size within room before is =
     let all : length (take 16 (drop at octets)) ≡ 16 = length-take-le 16 (drop at octets) (omega (arith, left, within)) in
     take-put_mid (2 * at) size digits new (2 * (at + 16)) (omega (arith, long, all)) room
     ∙ (λ i. before i ++ is i) ∙ sym (ap hex_of (take-add at 16 octets) ∙ flat_map-append pair_of (take at octets) (take 16 (drop at octets)))
+
+-- what is written for some octets begins with what is written for the first ones of them
+fewer_written : (digits octets : List ℕ) (less more : ℕ) → less ≤ more → more ≤ length octets → take (2 * more) digits ≡ hex_of (take more octets)
+    → take (2 * less) digits ≡ hex_of (take less octets)
+fewer_written digits octets less more order within before =
+    let front = take less octets in
+    let others = take (more - less) (drop less octets) in
+    let whole : less + (more - less) ≡ more = omega (arith, order) in
+    let long : length (hex_of front) ≡ 2 * less = length-hex front ∙ ap (λ (n : ℕ). 2 * n) (length-take-le less octets (omega (arith, order, within))) in
+    let parts : hex_of (take more octets) ≡ hex_of front ++ hex_of others = ap (λ (n : ℕ). hex_of (take n octets)) (sym whole)
+    ∙ ap hex_of (take-add less (more - less) octets) ∙ flat_map-append pair_of front others in
+    sym (take-take (2 * less) (2 * more) digits (omega (arith, order))) ∙ ap (take (2 * less)) (before ∙ parts)
+    ∙ take_at (hex_of front) (hex_of others) (2 * less) long
+
+-- the last sixteen octets are written, where at most those are not yet
+pub last_written : (digits octets new : List ℕ) (at size : ℕ) → at ≤ length octets → 16 ≤ length octets → length octets ≤ at + 16
+    → 2 * length octets ≤ length digits → take (2 * at) digits ≡ hex_of (take at octets)
+    → new ≡ hex_of (take 16 (drop (length octets - 16) octets))
+    → take (2 * length octets) (put_mid (2 * (length octets - 16)) size digits new) ≡ hex_of octets
+last_written digits octets new at size within enough few room before is =
+    let last = length octets - 16 in
+    let all : last + 16 ≡ length octets = omega (arith, enough) in
+    let so_far = fewer_written digits octets last at (omega (arith, few)) within before in
+    let written = piece_written digits octets new last size (omega (arith, enough)) (omega (arith, room)) so_far is in
+    subst (λ (n : ℕ). take (2 * n) (put_mid (2 * last) size digits new) ≡ hex_of (take n octets)) all written
+    ∙ ap hex_of (take_all (length octets) octets (omega arith))

@@ -19,7 +19,6 @@ use Rattle.dns_fields_more.specs.declared.form.Form.{Form}
 use Rattle.dns_entry_scanner.specs.NameInText.{SpellsUnder}
 use Rattle.dns_zonefile.specs.Entry.{Context, Entry}
 use Rattle.dns_zonefile.specs.Statement.{IsDirective}
-use Rattle.dns_zonefile.specs.Statement.Says.{directive}
 use Rattle.zone_general.specs.LongerEntries.{IsLongerEntry}
 use Rattle.zone_general.specs.LongerRow.{HasFront, HasType, IsGeneralRow, IsMarked, ScansLonger, Stands, general_tokens, known_word, with_tokens}
 use Rattle.zone_general.specs.LongerRow.HasFront.{last, own}

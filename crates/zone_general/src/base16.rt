@@ -9,7 +9,7 @@ use std::alloc::AllocError;
 use std::simd::prelude::*;
 
 /// How many octets at most are written in base 16 before their digits are appended.
-const PIECE_LEN: usize = 64;
+const PIECE_LEN: usize = 128;
 
 /// How many octets are written in base 16 together.
 const LANES: usize = 16;
@@ -29,17 +29,31 @@ pub(crate) fn append_hex(octets: &[u8], text: &mut Vec<u8>) -> Result<(), AllocE
     Ok(())
 }
 
-/// Writes two hexadecimal digits, in capitals, for each of at most 64 octets, from the start of `digits` on.
+/// Writes two hexadecimal digits, in capitals, for each of at most 128 octets, from the start of `digits` on.
+///
+/// The last sixteen octets are written together, even where some of them have been written before.
 fn write_hex(octets: &[u8], digits: &mut [u8; 2 * PIECE_LEN])
-    requires { length octets.now ≤ 64 }
+    requires { length octets.now ≤ 128 }
     ensures { take (2 * length octets.now) digits.new ≡ hex_of octets.now }
 {
+    if octets.len() < LANES {
+        return write_few(octets, digits);
+    }
+    let last = octets.len() - LANES;
     let mut at = 0;
-    while octets.len() - at >= LANES {
+    while at < last {
         digits[2 * at..2 * at + 2 * LANES].copy_from_slice(&sixteen_digits(&octets[at..]));
         at += LANES;
     }
-    for index in at..octets.len() {
+    digits[2 * last..2 * last + 2 * LANES].copy_from_slice(&sixteen_digits(&octets[last..]));
+}
+
+/// The same, one octet after another.
+fn write_few(octets: &[u8], digits: &mut [u8; 2 * PIECE_LEN])
+    requires { length octets.now ≤ 128 }
+    ensures { take (2 * length octets.now) digits.new ≡ hex_of octets.now }
+{
+    for index in 0..octets.len() {
         digits[2 * index] = hex_digit(octets[index] / 16);
         digits[2 * index + 1] = hex_digit(octets[index] % 16);
     }

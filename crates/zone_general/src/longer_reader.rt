@@ -7,7 +7,7 @@ ghost use Rattle.dns_field_texts.specs.Appended.{GoesOn};
 ghost use Rattle.dns_zonefile.specs.Entry as spec;
 ghost use Rattle.dns_zonefile.specs.Entry.{at_start};
 ghost use Rattle.zone_general.specs.LongerEntries.{IsLongerEntry};
-ghost use Rattle.zone_general.specs.LongerRow.{HasType, ScansLonger, Stands, known_word};
+ghost use Rattle.zone_general.specs.LongerRow.{HasType, ScansLonger, Stands, known_word as spec_known_word};
 ghost use Rattle.zone_general.specs.Rewritten.{GoesGeneral};
 ghost use Rattle.zone_general.specs.Seen.{HasTypeAt, IsFound, WritesGeneral, context_in, octets_in, row_in, tokens_in};
 
@@ -29,7 +29,7 @@ pub struct LongerReader {
     entries: EntryReader,
     /// The octets of the last record, or of its owner. This and the others are kept from row to row only to reuse the memory.
     record: Vec<u8>,
-    /// The word for the type of the last row that was read by its general row.
+    /// The word for the type of the last row whose own word is not known.
     word: Vec<u8>,
     /// The octets of the data of that row.
     data: Vec<u8>,
@@ -134,6 +134,7 @@ impl LongerReader {
     }
 
     /// Appends the general row of a row that does not stand, and reads the entry. It may have appended the general row if it fails.
+    #[inline(always)]
     fn read_further(
         &mut self,
         row: FoundRow<'_>,
@@ -181,18 +182,18 @@ impl LongerReader {
         ensures same { context_in self.new ≡ context_in self.old }
         ensures kept { IfErr result (λ error. is_memory error ≡ false → out.new.items ≡ out.old.items) }
     {
-        self.word.clear();
-        append_word(row, kind, &mut self.word)?;
+        let word = known_word(row, kind, &mut self.word)?;
         self.data.clear();
         scan_found_data(self.alloc, row, kind, self.entries.origin(), &mut self.data)?;
         self.form.clear();
         append_general_form(&self.data, &mut self.form)?;
-        append_rewritten(row, kind.index, &self.word, &self.form, out)?;
+        append_rewritten(row, kind.index, word, &self.form, out)?;
         Ok(())
     }
 }
 
 /// Returns the type of the row if it does not read as it stands.
+#[inline(always)]
 pub(crate) fn further_type(row: FoundRow<'_>) -> Option<RowType>
     ensures some { IfSome result (HasTypeAt (row_in row.entry)) }
     ensures further { IsSome result → Stands (row_in row.entry) → ⊥ }
@@ -214,17 +215,23 @@ fn stands(row: FoundRow<'_>, kind: RowType) -> bool
     kind.known && (is_marked(row, kind.index) || forms_of(Rtype::from_int(kind.rtype)).is_none())
 }
 
-/// Appends the word for the type of the general row: the row's own, or if that is not known, `TYPE` and the number.
+/// Returns the word for the type of the general row: the row's own, or if that is not known, `TYPE` and the number, which `made` gets.
 ///
-/// Fails if out of memory. It may then have appended a part of the word.
-fn append_word(row: FoundRow<'_>, kind: RowType, text: &mut Vec<u8>) -> Result<(), AllocError>
+/// Fails if out of memory.
+fn known_word<'w>(
+    row: FoundRow<'w>,
+    kind: RowType,
+    made: &'w mut Vec<u8>,
+) -> Result<&'w [u8], AllocError>
     requires { HasTypeAt (row_in row) kind }
-    ensures { OnOk result ((front : List Token) (word : Token) (rtype : ℕ) (others : List Token)
-        → HasType (row_in row.entry) front word rtype others → text.new.items ≡ text.old.items ++ known_word word rtype) }
+    ensures { IfOk result (λ known. (front : List Token) (word : Token) (rtype : ℕ) (others : List Token)
+        → HasType (row_in row.entry) front word rtype others → known.now ≡ spec_known_word word rtype) }
 {
     if kind.known {
-        return text.extend_from_slice(row.token(kind.index));
+        return Ok(row.token(kind.index));
     }
-    text.extend_from_slice(b"TYPE")?;
-    text.extend_from_slice(Buffer::new().format(kind.rtype).as_bytes())
+    made.clear();
+    made.extend_from_slice(b"TYPE")?;
+    made.extend_from_slice(Buffer::new().format(kind.rtype).as_bytes())?;
+    Ok(made.as_slice())
 }

@@ -27,10 +27,12 @@ pub fn append_rewritten(
     requires within { type_index < length row.spans.now }
     ensures { OnOk result ((new : List ℕ) × RewritesAt row.entry type_index word.now data.now new × (out.new.items ≡ out.old.items ++ new)) }
 {
-    if has_word(row, type_index, word) {
-        return append_from(row, type_index + 1, type_index, word, data, out);
-    }
-    append_from(row, type_index, type_index, word, data, out)
+    let first = if has_word(row, type_index, word) {
+        type_index + 1
+    } else {
+        type_index
+    };
+    append_from(row, first, type_index, word, data, out)
 }
 
 /// Returns whether the token at the index is this word, not in quotes.
@@ -43,6 +45,7 @@ fn has_word(row: FoundRow<'_>, index: usize, word: &[u8]) -> bool
 
 /// The same as `append_rewritten`. The row stays up to the token at `first`, which is that of the type, or if that is the word, the
 /// one behind it.
+#[inline(always)]
 fn append_from(
     row: FoundRow<'_>,
     first: usize,
@@ -95,6 +98,7 @@ fn end_place(text: &[u8], span: &TokenSpan) -> usize
 
 /// Appends what is written for the token at the index, and for the gap before it, where that is the type or behind it: the word,
 /// and then the data once. Behind the data's text, a gap of white space alone is left out.
+#[inline(always)]
 fn append_part(
     index: usize,
     type_index: usize,

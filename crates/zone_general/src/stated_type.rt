@@ -25,6 +25,7 @@ pub struct RowType {
 
 /// Returns the type of the record that the row states: that of the first token behind the owner that is a word for a type.
 /// Returns None if there is none, and if the row is a directive.
+#[inline(always)]
 pub fn row_type(row: FoundRow<'_>) -> Option<RowType>
     ensures some { IfSome result (HasTypeAt (row_in row.entry)) }
     ensures none { IfNone result (HasNoType (row_in row.entry)) }
@@ -65,6 +66,7 @@ struct TypeWord {
 }
 
 /// Returns the type that the token is a word for.
+#[inline(always)]
 fn word_type(text: &[u8], span: &TokenSpan) -> Option<TypeWord>
     ensures some { IfSome result (λ word. IsTypeWord word.rtype (token_in text.now span.now)
         × (word.known ≡ is_some (type_read (token_in text.now span.now).text))) }

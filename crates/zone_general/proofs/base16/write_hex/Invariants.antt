@@ -7,6 +7,3 @@ invariant-loop-at l = (l.at ≤ length l.octets) × (take (2 * l.at) l.digits �
 
 abbrev pub decreases-loop-at : goal.decreases-loop-at
 decreases-loop-at l = length l.octets - l.at
-
-abbrev pub invariant-loop-index : goal.invariant-loop-index
-invariant-loop-index l = take (2 * l.index) l.digits ≡ hex_of (take l.index l.octets)

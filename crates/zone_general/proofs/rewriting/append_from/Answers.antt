@@ -1,4 +1,4 @@
-use Rattle.std.proofs.Common.{rules, true, Result, Ok, Err, Some, if◌then◌else◌, refl, sym, subst, ◌≡◌, ◌⊎◌, ◌<◌, ◌≤◌, ◌+◌, ◌-◌, ◌++◌, Bool, ℕ, List, OnOk, ap, ◌∙◌, arith, length}
+use Rattle.std.proofs.Common.{rules, true, Result, Ok, Err, Some, if◌then◌else◌, refl, sym, subst, ◌≡◌, ◌⊎◌, ◌<◌, ◌≤◌, ◌+◌, ◌++◌, Bool, ℕ, List, OnOk, ap, ◌∙◌, arith, length}
 use Rattle.std.specs.Prelude.{slice_get}
 use Rattle.std.specs.Result.{is_ok}
 use Rattle.dns_scan.specs.Token.{unquoted}

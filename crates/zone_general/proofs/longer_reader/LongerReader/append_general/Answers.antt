@@ -2,7 +2,7 @@ use Rattle.std.proofs.Common.{◌≡◌, ◌∙◌, ◌+◌, ◌++◌, ℕ, List
 use Rattle.dns_label.specs.Octets.{AreOctets}
 use Rattle.dns_name.specs.UnknownText.{unknown_text}
 use Rattle.dns_entry_scanner.specs.NameInText.{SpellsUnder}
-use Rattle.zone_general.specs.LongerRow.{ScansLonger, known_word}
+use Rattle.zone_general.specs.LongerRow.{ScansLonger}
 use Rattle.zone_general.specs.Seen.{tokens_in}
 use Rattle.zone_general.proofs.WrittenRows.{rewrites_same}
 use Rattle.zone_general.proofs.longer_reader.LongerReader.append_general.Goals as goal
@@ -12,19 +12,18 @@ returns-clause-ok c =
     let scanned = c.in_ok-scan_found_data.ensures.ok in
     let appended = c.in_ok-append_rewritten.ensures in
     let content = scanned.0 in
-    let same : c.deref.result.now ≡ content = c.deref.ensures.value ∙ scanned.3 ∙ ap (λ (l : List ℕ). l ++ content) c.clear-2.ensures.items in (
+    let same : c.deref.result.now ≡ content = c.deref.ensures.value ∙ scanned.3 ∙ ap (λ (l : List ℕ). l ++ content) c.clear.ensures.items in (
       appended.0,
       record {
         content = content;
         scans = subst (λ (o : Option (List (List ℕ))). ScansLonger (SpellsUnder o) c.args.kind.rtype (drop (c.args.kind.index + 1) (tokens_in c.args.row)) content) c.origin.ensures scanned.1;
         octets = subst AreOctets same c.in_ok-append_general_form.ensures.octets;
         short = scanned.2;
-        word = c.append_word.new.text.items;
-        word_is = λ front stated rtype data' has.
-            c.in_ok-append_word.ensures front stated rtype data' has ∙ ap (λ (l : List ℕ). l ++ known_word stated rtype) c.clear.ensures.items;
-        so = rewrites_same c.args.row c.args.kind.index c.deref-2.ensures.value
-            (c.deref-3.ensures.value ∙ c.in_ok-append_general_form.ensures.text
-            ∙ ap (λ (l : List ℕ). l ++ unknown_text c.deref.result.now) c.clear-3.ensures.items ∙ ap unknown_text same)
+        word = c.in_ok-word.word.now;
+        word_is = c.in_ok-word.ensures;
+        so = rewrites_same c.args.row c.args.kind.index refl
+            (c.deref-2.ensures.value ∙ c.in_ok-append_general_form.ensures.text
+            ∙ ap (λ (l : List ℕ). l ++ unknown_text c.deref.result.now) c.clear-2.ensures.items ∙ ap unknown_text same)
             refl appended.1;
       },
       appended.2,
