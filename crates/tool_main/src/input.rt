@@ -4,9 +4,9 @@ use crate::fault::Fault;
 use crate::progress::{is_told, tell, wipe};
 use dns_name::{Class, Name};
 use std::alloc::Global;
+use std::fs;
 use std::fs::File;
-use std::io::Read;
-use std::{fs, io};
+use std::io::{BufRead, BufReader, ErrorKind, Read};
 use tool_words::{Reading, STANDARD_INPUT};
 use zone::{Zone, ZoneError};
 use zone_forms::{FormError, Rewriter, general_rows};
@@ -107,14 +107,26 @@ fn rewritten_input<'a, R: Read>(
     mut rewriter: Rewriter,
 ) -> Result<Vec<u8>, Fault<'a>> {
     let mut out = Vec::new(alloc);
-    let mut piece = Vec::new(alloc);
+    let mut long = Vec::new(alloc);
+    let mut input = match BufReader::with_capacity(alloc, PIECE_LEN, input) {
+        Ok(input) => input,
+        Err(error) => return Err(Fault::of_read(file, error)),
+    };
     for _ in 0..u64::MAX {
-        let len = rewriter.pending().max(PIECE_LEN);
-        if let Err(error) = read_piece(input, len, &mut piece) {
-            return Err(Fault::of_read(file, error));
-        }
-        in_file(file, rewriter.feed(&piece, &mut out))?;
-        if piece.len() < len {
+        let waiting = rewriter.pending();
+        let fed = if waiting > PIECE_LEN {
+            feed_long(
+                file,
+                &mut input,
+                waiting,
+                &mut long,
+                &mut rewriter,
+                &mut out,
+            )?
+        } else {
+            feed_buffer(file, &mut input, &mut rewriter, &mut out)?
+        };
+        if !fed {
             break;
         }
     }
@@ -122,11 +134,40 @@ fn rewritten_input<'a, R: Read>(
     Ok(out)
 }
 
-/// Reads the next octets of the input in place of those in the piece: that many, or fewer at the input's end.
-fn read_piece<R: Read>(input: &mut R, len: usize, piece: &mut Vec<u8>) -> io::Result<()> {
+/// Feeds what the next read of the input gives. Returns false at its end.
+fn feed_buffer<'a, R: BufRead>(
+    file: &'a str,
+    input: &mut R,
+    rewriter: &mut Rewriter,
+    out: &mut Vec<u8>,
+) -> Result<bool, Fault<'a>> {
+    let piece = match input.fill_buf() {
+        Ok(piece) => piece,
+        Err(error) if error.kind() == ErrorKind::Interrupted => return Ok(true),
+        Err(error) => return Err(Fault::of_read(file, error)),
+    };
+    in_file(file, rewriter.feed(piece, out))?;
+    let len = piece.len();
+    input.consume(len);
+    Ok(len > 0)
+}
+
+/// Feeds as many octets of the input as wait for the rest of their row, or fewer at its end, where it returns false.
+fn feed_long<'a, R: Read>(
+    file: &'a str,
+    input: &mut R,
+    len: usize,
+    piece: &mut Vec<u8>,
+    rewriter: &mut Rewriter,
+    out: &mut Vec<u8>,
+) -> Result<bool, Fault<'a>> {
     piece.clear();
-    input.take(len as u64).read_to_end(piece)?;
-    Ok(())
+    match input.take(len as u64).read_to_end(piece) {
+        Ok(_) => {}
+        Err(error) => return Err(Fault::of_read(file, error)),
+    }
+    in_file(file, rewriter.feed(piece, out))?;
+    Ok(piece.len() == len)
 }
 
 /// Returns the value, or why the text of the file is not rewritten.
