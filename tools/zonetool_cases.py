@@ -12,6 +12,7 @@ import re
 import subprocess
 import sys
 import tempfile
+from base64 import b64encode
 from dataclasses import dataclass
 from pathlib import Path
 
@@ -202,6 +203,9 @@ NAMED = [
     ("CDNSKEY 257 3 ed25519 Zm9v", "CDNSKEY", "0101030F"),
     ("RRSIG A RSASHA1-NSEC3-SHA1 1 60 2 1 3 z. Zm9v", "RRSIG", "00010701" "0000003C" "00000002" "00000001" "0003" "017A00"),
 ]
+# How many octets of data are written, and how many lines are counted, around the borders of vectors and of pieces.
+BORDERS = 1, 15, 16, 17, 31, 32, 33, 63, 64, 65, 127, 128, 129, 143, 144, 145, 255, 256, 257
+KEYS = [bytes(range(256))[-it:] + bytes(it - min(it, 256)) for it in BORDERS]
 ENDED = "TLSA 3 1 1", "CERT 1 0 0", "CDS 12345 13 99", "CDNSKEY 257 3 13", "ZONEMD 1 1 1", "OPENPGPKEY", "RRSIG A 8 1 60 2 1 3 z."
 FORMS = [
     Case("general", 0, NEXT.format(general(HOST, BITMAP), GAPS), given=NEXT.format(FIELDS, "")),
@@ -236,6 +240,9 @@ FORMS = [
     # Times before 1970, which are those of 2^32 seconds later.
     Case("general", 0, f"a. 5 IN RRSIG {general(BEFORE)}\n", given="a. 5 IN RRSIG A 8 1 5 19691231235959 19010101000000 1 . AAAA\n"),
     Case("general", 2, said="zonetool: -: line 1 does not read", given="a. 5 IN RRSIG A 8 1 5 00001231235959 19010101000000 1 . AAAA\n"),
+    *(Case("general", 0, f"a. 5 IN TYPE61 {general(it)}\n", given=f"a. 5 IN OPENPGPKEY {b64encode(it).decode()}\n") for it in KEYS),
+    *(Case("general", 2, said=f"zonetool: -: line {it + 1} does not read", given="\n" * it + "a.z. 5 IN NSEC\n") for it in BORDERS),
+    *(Case("general", 2, said=f"zonetool: -: line {it // 2 + 2} does not read", given=";\r\n" * (it // 2) + ";" * it + "\na.z. 5 IN NSEC\n") for it in BORDERS),
     Case("general relative", 2, said="zonetool: relative: line 1 does not read"),
     Case("general missing", 2, said="zonetool: missing: read failed: No such file or directory (os error 2)"),
     Case("general --layout simple", 2, said=unexpected("--layout")),
