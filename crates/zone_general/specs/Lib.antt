@@ -5,5 +5,6 @@ pub mod Rewritten
 pub mod Readable
 pub mod RowFields
 pub mod Base16
+pub mod DataText
 pub mod Seen
 pub mod WrittenPart

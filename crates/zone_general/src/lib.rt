@@ -5,6 +5,7 @@
 #![tactic(auto)]
 
 mod base16;
+mod data_text;
 mod found_row;
 mod general_form;
 mod longer_reader;

@@ -12,8 +12,7 @@ ghost use Rattle.zone_general.specs.Rewritten.{GoesGeneral};
 ghost use Rattle.zone_general.specs.Seen.{HasTypeAt, IsFound, WritesGeneral, context_in, octets_in, row_in, tokens_in};
 
 use crate::found_row::FoundRow;
-use crate::general_form::append_general_form;
-use crate::rewriting::append_rewritten;
+use crate::rewriting::append_in_general_form;
 use crate::row_data::{is_marked, scan_found_data};
 use crate::stated_type::{RowType, row_type};
 use dns_fields_more::forms_of;
@@ -31,10 +30,8 @@ pub struct LongerReader {
     record: Vec<u8>,
     /// The word for the type of the last row whose own word is not known.
     word: Vec<u8>,
-    /// The octets of the data of that row.
+    /// The octets of the data of the last row that was read by its general row.
     data: Vec<u8>,
-    /// The general form of that data.
-    form: Vec<u8>,
 }
 
 impl LongerReader {
@@ -57,7 +54,6 @@ impl LongerReader {
             record: Vec::new(alloc),
             word: Vec::new(alloc),
             data: Vec::new(alloc),
-            form: Vec::new(alloc),
         })
     }
 
@@ -185,9 +181,7 @@ impl LongerReader {
         let word = known_word(row, kind, &mut self.word)?;
         self.data.clear();
         scan_found_data(self.alloc, row, kind, self.entries.origin(), &mut self.data)?;
-        self.form.clear();
-        append_general_form(&self.data, &mut self.form)?;
-        append_rewritten(row, kind.index, word, &self.form, out)?;
+        append_in_general_form(row, kind.index, word, &self.data, out)?;
         Ok(())
     }
 }

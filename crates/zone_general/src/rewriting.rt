@@ -4,10 +4,14 @@ ghost use Rattle.dns_scan.specs.Token.{unquoted};
 ghost use Rattle.std.specs.List.{list_all};
 ghost use Rattle.dns_entry_scanner.specs.Gap.{end_in, first_of};
 ghost use Rattle.dns_text.specs.Tokens.{is_gap};
+ghost use Rattle.dns_label.specs.Octets.{AreOctets};
+ghost use Rattle.dns_name.specs.UnknownText.{unknown_text};
+ghost use Rattle.zone_general.specs.DataText.{text_of};
 ghost use Rattle.zone_general.specs.Rewritten.{kept};
 ghost use Rattle.zone_general.specs.Seen.{IsFound, RewritesAt, tokens_in};
 ghost use Rattle.zone_general.specs.WrittenPart.{place_at, written_none, written_part};
 
+use crate::data_text::DataText;
 use crate::found_row::FoundRow;
 use dns_zonefile::TokenSpan;
 use std::alloc::AllocError;
@@ -27,12 +31,44 @@ pub fn append_rewritten(
     requires within { type_index < length row.spans.now }
     ensures { OnOk result ((new : List ℕ) × RewritesAt row.entry type_index word.now data.now new × (out.new.items ≡ out.old.items ++ new)) }
 {
+    rewrite(row, type_index, word, DataText::Written(data), out)
+}
+
+/// The same, with the general form of these octets for the data.
+pub(crate) fn append_in_general_form(
+    row: FoundRow<'_>,
+    type_index: usize,
+    word: &[u8],
+    octets: &[u8],
+    out: &mut Vec<u8>,
+) -> Result<(), AllocError>
+    requires found { IsFound row }
+    requires within { type_index < length row.spans.now }
+    ensures rewrites { OnOk result ((new : List ℕ) × RewritesAt row.entry type_index word.now (unknown_text octets.now) new
+        × (out.new.items ≡ out.old.items ++ new)) }
+    ensures octets { AreOctets octets.now }
+{
+    rewrite(row, type_index, word, DataText::General(octets), out)
+}
+
+/// The same, with this text for the data.
+fn rewrite(
+    row: FoundRow<'_>,
+    type_index: usize,
+    word: &[u8],
+    text: DataText<'_>,
+    out: &mut Vec<u8>,
+) -> Result<(), AllocError>
+    requires found { IsFound row }
+    requires within { type_index < length row.spans.now }
+    ensures { OnOk result ((new : List ℕ) × RewritesAt row.entry type_index word.now (text_of text.entry) new × (out.new.items ≡ out.old.items ++ new)) }
+{
     let first = if has_word(row, type_index, word) {
         type_index + 1
     } else {
         type_index
     };
-    append_from(row, first, type_index, word, data, out)
+    append_from(row, first, type_index, word, text, out)
 }
 
 /// Returns whether the token at the index is this word, not in quotes.
@@ -43,7 +79,7 @@ fn has_word(row: FoundRow<'_>, index: usize, word: &[u8]) -> bool
     !row.spans[index].is_quoted() && row.token(index) == word
 }
 
-/// The same as `append_rewritten`. The row stays up to the token at `first`, which is that of the type, or if that is the word, the
+/// The same as `rewrite`. The row stays up to the token at `first`, which is that of the type, or if that is the word, the
 /// one behind it.
 #[inline(always)]
 fn append_from(
@@ -51,23 +87,23 @@ fn append_from(
     first: usize,
     type_index: usize,
     word: &[u8],
-    data: &[u8],
+    text: DataText<'_>,
     out: &mut Vec<u8>,
 ) -> Result<(), AllocError>
     requires found { IsFound row }
     requires within { type_index < length row.spans.now }
     requires first { (first ≡ type_index) ⊎ ((first ≡ type_index + 1) × (slice_get (tokens_in row) type_index ≡ Some (unquoted word.now))) }
-    ensures { OnOk result ((new : List ℕ) × RewritesAt row.entry type_index word.now data.now new × (out.new.items ≡ out.old.items ++ new)) }
+    ensures { OnOk result ((new : List ℕ) × RewritesAt row.entry type_index word.now (text_of text.entry) new × (out.new.items ≡ out.old.items ++ new)) }
 {
     let mut behind = place_before(row, first);
     out.extend_from_slice(&row.text[row.place..behind])?;
     for index in first..row.spans.len() {
         let span = &row.spans[index];
         let gap = &row.text[behind..first_place(span)];
-        append_part(index, type_index, word, data, gap, out)?;
+        append_part(index, type_index, word, text, gap, out)?;
         behind = end_place(row.text, span);
     }
-    append_missing(row.spans.len(), type_index, data, out)?;
+    append_missing(row.spans.len(), type_index, text, out)?;
     out.extend_from_slice(&row.text[behind..row.next])
 }
 
@@ -103,12 +139,12 @@ fn append_part(
     index: usize,
     type_index: usize,
     word: &[u8],
-    data: &[u8],
+    text: DataText<'_>,
     gap: &[u8],
     out: &mut Vec<u8>,
 ) -> Result<(), AllocError>
     requires { type_index ≤ index }
-    ensures { OnOk result ((token : List ℕ) → out.new.items ≡ out.old.items ++ written_part index type_index word.now data.now gap.now token) }
+    ensures { OnOk result ((token : List ℕ) → out.new.items ≡ out.old.items ++ written_part index type_index word.now (text_of text.entry) gap.now token) }
 {
     if index - type_index > 1 {
         return append_kept(gap, out);
@@ -120,7 +156,7 @@ fn append_part(
     if gap.is_empty() {
         out.push(b' ')?;
     }
-    out.extend_from_slice(data)
+    text.append_to(out)
 }
 
 /// Appends the gap unless it is white space alone: spaces, tabs and carriage returns.
@@ -151,15 +187,15 @@ fn is_blank(octet: u8) -> bool
 fn append_missing(
     count: usize,
     type_index: usize,
-    data: &[u8],
+    text: DataText<'_>,
     out: &mut Vec<u8>,
 ) -> Result<(), AllocError>
     requires { type_index < count }
-    ensures { OnOk result (out.new.items ≡ out.old.items ++ written_none count type_index data.now) }
+    ensures { OnOk result (out.new.items ≡ out.old.items ++ written_none count type_index (text_of text.entry)) }
 {
     if count - type_index == 1 {
         out.push(b' ')?;
-        out.extend_from_slice(data)?;
+        text.append_to(out)?;
     }
     Ok(())
 }

@@ -3,6 +3,7 @@ use Rattle.std.specs.Prelude.{slice_get}
 use Rattle.std.specs.Result.{is_ok}
 use Rattle.dns_scan.specs.Token.{unquoted}
 use Rattle.dns_entry_scanner.specs.TokenEnd.{between}
+use Rattle.zone_general.specs.DataText.{text_of}
 use Rattle.zone_general.specs.Seen.{IsFound, tokens_in}
 use Rattle.zone_general.specs.WrittenPart.{place_at}
 use Rattle.zone_general.specs.declared.found_row.FoundRow.{FoundRow}
@@ -32,7 +33,7 @@ slice_bounds-extend_from_slice-start c =
 
 pub slice_bounds-extend_from_slice-end : goal.slice_bounds-extend_from_slice-end
 slice_bounds-extend_from_slice-end c =
-    let so = there c.args.row c.args.type_index c.args.first c.args.word.now c.args.data.now c.args.out.now.items c.requires.found c.requires.within c.requires.first in
+    let so = there c.args.row c.args.type_index c.args.first c.args.word.now (text_of c.args.text) c.args.out.now.items c.requires.found c.requires.within c.requires.first in
     let within : c.place_before-behind.result ≤ length c.args.row.text.now = omega (arith, so.going.within, c.place_before-behind.ensures) in
     search rules
 
@@ -41,8 +42,8 @@ loop-index-init c =
     let at = c.place_before-behind.ensures in
     let out = c.extend_from_slice.new.self.items in (
       first_behind c.requires.first,
-      subst (λ n. Reached c.args.row c.args.type_index c.args.word.now c.args.data.now n c.args.first c.args.out.now.items out) (sym at)
-          (reached_first c.args.row c.args.type_index c.args.first c.args.word.now c.args.data.now c.args.out.now.items out c.requires.found no_span
+      subst (λ n. Reached c.args.row c.args.type_index c.args.word.now (text_of c.args.text) n c.args.first c.args.out.now.items out) (sym at)
+          (reached_first c.args.row c.args.type_index c.args.first c.args.word.now (text_of c.args.text) c.args.out.now.items out c.requires.found no_span
           c.requires.within c.requires.first
           (c.in_ok-extend_from_slice.ensures.items ∙ ap (λ n. c.args.out.now.items ++ between c.args.row.place n c.args.row.text.now) at)),
     )
@@ -63,7 +64,7 @@ loop-index-preserved c =
     let row = c.args.row in
     let gap = between c.loop-index.behind c.first_place.result row.text.now in (
       omega (arith, c.loop-index.invariant.0),
-      subst (λ n. Reached row c.args.type_index c.args.word.now c.args.data.now n (c.loop-index.index + 1) c.args.out.now.items c.append_part.new.out.items)
+      subst (λ n. Reached row c.args.type_index c.args.word.now (text_of c.args.text) n (c.loop-index.index + 1) c.args.out.now.items c.append_part.new.out.items)
           (sym c.end_place-behind.ensures)
           (reached_on c.loop-index.invariant.1 _ c.loop-index-test.true gap c.append_part.new.out.items
           (ap (λ n. between c.loop-index.behind n row.text.now) c.first_place.ensures) c.in_ok-append_part.ensures),

@@ -10,21 +10,18 @@ use Rattle.zone_general.proofs.longer_reader.LongerReader.append_general.Goals a
 pub returns-clause-ok : goal.returns-clause-ok
 returns-clause-ok c =
     let scanned = c.in_ok-scan_found_data.ensures.ok in
-    let appended = c.in_ok-append_rewritten.ensures in
+    let appended = c.in_ok-append_in_general_form.ensures.rewrites in
     let content = scanned.0 in
     let same : c.deref.result.now ≡ content = c.deref.ensures.value ∙ scanned.3 ∙ ap (λ (l : List ℕ). l ++ content) c.clear.ensures.items in (
       appended.0,
       record {
         content = content;
         scans = subst (λ (o : Option (List (List ℕ))). ScansLonger (SpellsUnder o) c.args.kind.rtype (drop (c.args.kind.index + 1) (tokens_in c.args.row)) content) c.origin.ensures scanned.1;
-        octets = subst AreOctets same c.in_ok-append_general_form.ensures.octets;
+        octets = subst AreOctets same c.append_in_general_form.ensures.octets;
         short = scanned.2;
         word = c.in_ok-word.word.now;
         word_is = c.in_ok-word.ensures;
-        so = rewrites_same c.args.row c.args.kind.index refl
-            (c.deref-2.ensures.value ∙ c.in_ok-append_general_form.ensures.text
-            ∙ ap (λ (l : List ℕ). l ++ unknown_text c.deref.result.now) c.clear-2.ensures.items ∙ ap unknown_text same)
-            refl appended.1;
+        so = rewrites_same c.args.row c.args.kind.index refl (ap unknown_text same) refl appended.1;
       },
       appended.2,
     )
