@@ -1,5 +1,5 @@
 -- Octets in base 16, by their bits and by the digits of each.
-use Rattle.std.proofs.Common.{◌≡◌, ℕ, ◌/◌, ◌%◌, ◌<◌, zero, suc, true, List, [], ◌∷◌, ◌++◌, get_or, sym, ◌∙◌, ap, refl, arith, append-nil}
+use Rattle.std.proofs.Common.{◌≡◌, ℕ, ◌/◌, ◌%◌, ◌<◌, zero, suc, true, List, [], ◌∷◌, take, drop, get_or, ◌∙◌, ap, refl, arith, append-nil}
 use Rattle.std.specs.Fmt.{digit_glyph}
 use Rattle.dns_label.specs.Octets.{AreOctets}
 use Rattle.dns_name.specs.UnknownText.{hex_of}
@@ -30,3 +30,14 @@ hex_encoded octets are = append-nil (characters_of Sixteen octets) ∙ hex_chara
 pub octets_by_place : (octets : List ℕ) → ((i : ℕ) → get_or octets i 0 < 256) → AreOctets octets
 octets_by_place [] each = tt
 octets_by_place (octet ∷ octets) each = (each 0, octets_by_place octets (λ i. each (suc i)))
+
+-- the first octets, and the others
+pub are_taken : (n : ℕ) (octets : List ℕ) → AreOctets octets → AreOctets (take n octets)
+are_taken zero octets are = tt
+are_taken (suc n) [] are = tt
+are_taken (suc n) (octet ∷ octets) are = (are.0, are_taken n octets are.1)
+
+pub are_dropped : (n : ℕ) (octets : List ℕ) → AreOctets octets → AreOctets (drop n octets)
+are_dropped zero octets are = are
+are_dropped (suc n) [] are = tt
+are_dropped (suc n) (octet ∷ octets) are = are_dropped n octets are.1

@@ -16,3 +16,6 @@ pub mod Deciphered
 pub mod ConvertedTokens
 pub mod ConvertedEntries
 pub mod HexWords
+pub mod HexLanes
+pub mod Fours
+pub mod BareTexts

@@ -45,6 +45,10 @@ digit_64 c =
     else (if nat_lt c 65 then 64 else (if nat_lt c 91 then c - 65
     else (if nat_lt c 97 then 64 else (if nat_lt c 123 then c - 71 else 64)))))))
 
+-- a number has one hexadecimal digit
+abbrev pub IsHexNumber : ℕ → Type 0
+IsHexNumber number = number < 16
+
 -- The number that a character stands for: letters in upper or lower case in base 16 and 32. What is no character has a
 -- number that the alphabet lacks.
 abbrev pub digit : Base → ℕ → ℕ

@@ -1,5 +1,5 @@
 -- The texts of character strings (RFC 1035 5.1).
-use Rattle.std.specs.Prelude.{◌≡◌, ◌≤◌, ◌==◌, ◌||◌, ◌++◌, ◌∷◌, [], ℕ, Bool, List, length, map, if◌then◌else◌}
+use Rattle.std.specs.Prelude.{◌≡◌, ◌≤◌, ◌==◌, ◌&&◌, ◌||◌, ◌++◌, ◌∷◌, [], ℕ, Bool, List, length, map, not, if◌then◌else◌}
 use Rattle.std.specs.List.{AllByRecursion, flat_map}
 use Rattle.dns_label.specs.declared.symbol.Symbol.{Symbol}
 use Rattle.dns_label.specs.declared.symbol.Symbol.TheVariants.{Char, SimpleEscape, DecimalEscape}
@@ -26,6 +26,10 @@ is_escaped Plain octet = octet == 92
 is_escaped Quoted octet = (octet == 34) || (octet == 92)
 is_escaped Unquoted octet =
     (octet == 32) || ((octet == 34) || ((octet == 40) || ((octet == 41) || ((octet == 59) || (octet == 92)))))
+
+-- what is written as itself
+abbrev pub is_bare : Style → ℕ → Bool
+is_bare style octet = is_printable octet && not (is_escaped style octet)
 
 -- what is not printable is written as three digits
 abbrev pub symbol_of : Style → ℕ → Symbol

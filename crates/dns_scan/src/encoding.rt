@@ -10,7 +10,9 @@ mod decode_error;
 mod decoder;
 mod encoded;
 mod entry;
+mod fours;
 mod group;
+mod hex_digits;
 mod symbol_converter;
 mod values;
 

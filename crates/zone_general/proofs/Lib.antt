@@ -9,7 +9,6 @@ pub mod RowData
 pub mod KnownWords
 pub mod TypeOf
 pub mod GeneralForm
-mod HexLanes
 pub mod GeneralRows
 pub mod LongerRows
 pub mod WrittenRows

@@ -4,7 +4,6 @@ pub mod LongerEntries
 pub mod Rewritten
 pub mod Readable
 pub mod RowFields
-pub mod Base16
 pub mod DataText
 pub mod Seen
 pub mod WrittenPart

@@ -3,7 +3,7 @@ ghost use Rattle.std.specs.Prelude.{◌≡◌, ◌++◌, OnOk};
 ghost use Rattle.dns_label.specs.Octets.{AreOctets};
 ghost use Rattle.dns_name.specs.UnknownText.{unknown_text};
 
-use crate::base16::append_hex;
+use dns_text::base16;
 use itoa::Buffer;
 use std::alloc::AllocError;
 
@@ -21,5 +21,5 @@ pub(crate) fn append_general_form(octets: &[u8], text: &mut Vec<u8>) -> Result<(
         return Ok(());
     }
     text.push(b' ')?;
-    append_hex(octets, text)
+    base16::append(octets, text)
 }

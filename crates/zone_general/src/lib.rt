@@ -4,7 +4,6 @@
 //! A part of `zone_forms`. Its other functions are for that crate: a `FoundRow` is what `read_row` found in a text.
 #![tactic(auto)]
 
-mod base16;
 mod data_text;
 mod found_row;
 mod general_form;

@@ -1,8 +1,9 @@
 //! The texts of character strings (RFC 1035 5.1).
-ghost use Rattle.std.specs.Prelude.{◌≡◌, ◌≤◌, List, ℕ, length, take, Some, IfOk, IfErr, IfSome, OnErr};
+ghost use Rattle.std.specs.Prelude.{◌≡◌, ◌≤◌, List, ℕ, true, length, take, Some, IfOk, IfErr, OnErr};
+ghost use Rattle.std.specs.List.{list_all};
 ghost use Rattle.std.specs.Fmt.{DisplaysOnOk};
 ghost use Rattle.dns_label.specs.Symbol.{IsSymbol, octet, spelled};
-ghost use Rattle.dns_scan.specs.StringText.{IsStringText, Spells, is_escaped, symbol_of, text_of, plain_text, quoted_text, unquoted_text};
+ghost use Rattle.dns_scan.specs.StringText.{IsStringText, Spells, is_bare, is_escaped, symbol_of, text_of, plain_text, quoted_text, unquoted_text};
 ghost use Rattle.dns_scan.specs.Refused.{IsRefused};
 ghost use Rattle.dns_scan.specs.declared.char_str.text.FromStrError.TheVariants.{Presentation};
 
@@ -188,9 +189,9 @@ impl fmt::Display for DisplayQuoted<'_> {
     ghost output = { λ string. Some (quoted_text string) };
 
     fn fmt<W: fmt::Write>(&self, f: &mut fmt::Formatter<W>) -> fmt::Result {
-        f.write_char('"')?;
+        f.write_str("\"")?;
         write_octets(f, Style::Quoted, self.octets)?;
-        f.write_char('"')
+        f.write_str("\"")
     }
 }
 
@@ -202,7 +203,7 @@ impl fmt::Display for DisplayUnquoted<'_> {
     }
 }
 
-/// Writes the text of the octets.
+/// Writes the text of the octets: each run of those that are written as themselves at once.
 fn write_octets<W: fmt::Write>(
     f: &mut fmt::Formatter<W>,
     style: Style,
@@ -210,36 +211,29 @@ fn write_octets<W: fmt::Write>(
 ) -> fmt::Result
     ensures { DisplaysOnOk W.write_str_gives f.old result (Some (text_of style octets.now)) f.new }
 {
-    match bare_text(style, octets) {
-        Some(text) => f.write_str(text),
-        None => write_symbols(f, style, octets),
-    }
-}
-
-/// Returns the octets as text if each is written as itself, as those of most strings are.
-fn bare_text(style: Style, octets: &[u8]) -> Option<&str>
-    ensures { IfSome result (λ text. text.now ≡ text_of style octets.now) }
-{
-    for &octet in octets {
-        if !matches!(style.symbol(octet), Symbol::Char(_)) {
-            return None;
-        }
-    }
-    str::from_utf8(octets).ok()
-}
-
-/// Writes each octet as its symbol.
-fn write_symbols<W: fmt::Write>(
-    f: &mut fmt::Formatter<W>,
-    style: Style,
-    octets: &[u8],
-) -> fmt::Result
-    ensures { DisplaysOnOk W.write_str_gives f.old result (Some (text_of style octets.now)) f.new }
-{
-    for &octet in octets {
+    let mut left = octets;
+    loop {
+        let (run, behind) = left.split_at(bare_len(style, left));
+        // What is written as itself is ASCII.
+        f.write_str(unsafe { str::from_utf8_unchecked(run) })?;
+        let Some((&octet, others)) = behind.split_first() else {
+            return Ok(());
+        };
         write_symbol(f, style.symbol(octet))?;
+        left = others;
     }
-    Ok(())
+}
+
+/// Returns how many octets from the first on are written as themselves.
+fn bare_len(style: Style, octets: &[u8]) -> usize
+    ensures within { result ≤ length octets.now }
+    ensures bare { list_all (is_bare style) (take result octets.now) ≡ true }
+{
+    let mut len = 0;
+    while len < octets.len() && style.is_bare(octets[len]) {
+        len += 1;
+    }
+    len
 }
 
 /// Writes a symbol.
@@ -273,6 +267,13 @@ impl Style {
             b' '..=b'~' => Symbol::Char(char::from(octet)),
             _ => Symbol::DecimalEscape(octet),
         }
+    }
+
+    /// Returns whether the octet is written as itself.
+    fn is_bare(self, octet: u8) -> bool
+        ensures { result ≡ is_bare self octet }
+    {
+        matches!(octet, b' '..=b'~') && !self.escapes(octet)
     }
 
     /// Returns whether the character is written after a backslash.

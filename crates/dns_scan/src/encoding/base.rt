@@ -35,7 +35,7 @@ impl Base {
         let octet = number as u8;
         match self {
             Base::Sixteen | Base::ThirtyTwoHex => hex_character(octet),
-            Base::SixtyFour => character_64(octet),
+            Base::SixtyFour => char::from(character_64(octet)),
         }
     }
 
@@ -86,17 +86,17 @@ fn hex_character(number: u8) -> char
 }
 
 /// Returns the capital, small letter, digit, plus or slash of a number.
-fn character_64(number: u8) -> char
+pub(super) fn character_64(number: u8) -> u8
     requires { number < 64 }
     ensures is { result ≡ character_64 number }
     ensures ascii { result < 128 }
 {
     match number {
-        0..=25 => char::from(b'A' + number),
-        26..=51 => char::from(b'a' - 26 + number),
-        52..=61 => char::from(number - 4),
-        62 => '+',
-        _ => '/',
+        0..=25 => b'A' + number,
+        26..=51 => b'a' - 26 + number,
+        52..=61 => number - 4,
+        62 => b'+',
+        _ => b'/',
     }
 }
 

@@ -1,11 +1,12 @@
 //! Base 16 (RFC 4648 8): two characters for an octet, in upper or lower case.
-ghost use Rattle.std.specs.Prelude.{◌≡◌, List, ℕ, [], false, IfOk, IfErr, OnErr, string_bytes};
+ghost use Rattle.std.specs.Prelude.{◌≡◌, ◌++◌, List, ℕ, [], false, length, take, IfOk, IfErr, OnOk, OnErr, string_bytes};
 ghost use Rattle.std.specs.Str.{chars};
 ghost use Rattle.dns_scan.specs.Encodings.{encoded_16, Decodes16};
 ghost use Rattle.dns_scan.specs.Decoding.{WhyNoText};
 ghost use Rattle.dns_scan.specs.Token.{IsEntry, IsWord, IsEnding, SameNames};
 ghost use Rattle.dns_scan.specs.declared.encoding.base.Base.TheVariants.{Sixteen};
 
+use super::hex_digits::{PIECE_LEN, write_digits};
 use super::{Base, DecodeError, DisplayEncoded, Encoding, decoder, entry, symbol_converter};
 use crate::Scanner;
 use dns_name::{EmptyBuilder, FromBuilder, Octets};
@@ -52,6 +53,37 @@ pub fn encode_string(alloc: Global, octets: &[u8]) -> Result<String, AllocError>
     ensures { IfOk result (λ text. string_bytes text ≡ encoded_16 octets.now) }
 {
     display(octets).to_string(alloc)
+}
+
+/// Appends the text of the octets, in capitals. Fails if out of memory, and then changes nothing.
+pub fn append(octets: &[u8], text: &mut Vec<u8>) -> Result<(), AllocError>
+    ensures ok { OnOk result (text.new.items ≡ text.old.items ++ encoded_16 octets.now) }
+    ensures same { OnErr result (text.new.items ≡ text.old.items) }
+{
+    let len = text.len();
+    match append_digits(octets, text) {
+        Ok(()) => Ok(()),
+        Err(error) => {
+            text.truncate(len);
+            Err(error)
+        }
+    }
+}
+
+/// Appends the digits of the octets. If it fails, it may have appended some of them.
+fn append_digits(octets: &[u8], text: &mut Vec<u8>) -> Result<(), AllocError>
+    ensures ok { OnOk result (text.new.items ≡ text.old.items ++ encoded_16 octets.now) }
+    ensures front { take (length text.old.items) text.new.items ≡ text.old.items }
+{
+    let mut digits = [0; 2 * PIECE_LEN];
+    let mut left = octets;
+    while !left.is_empty() {
+        let (piece, behind) = left.split_at(left.len().min(PIECE_LEN));
+        write_digits(piece, &mut digits);
+        text.extend_from_slice(&digits[..2 * piece.len()])?;
+        left = behind;
+    }
+    Ok(())
 }
 
 /// Decodes all words that are left in an entry, joined to one text, which may be empty.

@@ -1,8 +1,8 @@
 use Rattle.std.proofs.Common.{◌∙◌, ◌-◌, ℕ, List, ap, arith, length, take}
 use Rattle.std.proofs.lemmas.List.{take_rest}
 use Rattle.dns_name.specs.UnknownText.{hex_of}
-use Rattle.zone_general.proofs.HexLanes.{last_written, piece_written}
-use Rattle.zone_general.proofs.base16.write_hex.Goals as goal
+use Rattle.dns_scan.proofs.HexLanes.{last_written, piece_written}
+use Rattle.dns_scan.proofs.encoding.hex_digits.write_digits.Goals as goal
 
 pub loop-at-preserved : goal.loop-at-preserved
 loop-at-preserved c =

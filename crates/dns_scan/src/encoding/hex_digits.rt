@@ -1,38 +1,22 @@
-//! Octets in base 16, in capitals (RFC 4648 8).
-ghost use Rattle.std.specs.Prelude.{◌≡◌, ◌<◌, ◌≤◌, ◌*◌, ◌++◌, true, length, map, take, OnOk};
+//! The digits of octets in base 16, sixteen octets at a time.
+ghost use Rattle.std.specs.Prelude.{◌≡◌, ◌<◌, ◌≤◌, ◌*◌, true, length, map, take};
 ghost use Rattle.std.specs.Fmt.{digit_glyph};
 ghost use Rattle.std.specs.List.{AllByRecursion};
 ghost use Rattle.dns_name.specs.UnknownText.{hex_of};
-ghost use Rattle.zone_general.specs.Base16.{IsHexNumber};
+ghost use Rattle.dns_scan.specs.Base.{IsHexNumber};
 
-use std::alloc::AllocError;
 use std::simd::prelude::*;
 
-/// How many octets at most are written in base 16 before their digits are appended.
-const PIECE_LEN: usize = 128;
+/// How many octets at most are written before their digits are handed on.
+pub(super) const PIECE_LEN: usize = 128;
 
-/// How many octets are written in base 16 together.
+/// How many octets are written together.
 const LANES: usize = 16;
-
-/// Appends two hexadecimal digits, in capitals, for each octet.
-pub(crate) fn append_hex(octets: &[u8], text: &mut Vec<u8>) -> Result<(), AllocError>
-    ensures { OnOk result (text.new.items ≡ text.old.items ++ hex_of octets.now) }
-{
-    let mut digits = [0; 2 * PIECE_LEN];
-    let mut left = octets;
-    while !left.is_empty() {
-        let (piece, behind) = left.split_at(left.len().min(PIECE_LEN));
-        write_hex(piece, &mut digits);
-        text.extend_from_slice(&digits[..2 * piece.len()])?;
-        left = behind;
-    }
-    Ok(())
-}
 
 /// Writes two hexadecimal digits, in capitals, for each of at most 128 octets, from the start of `digits` on.
 ///
 /// The last sixteen octets are written together, even where some of them have been written before.
-fn write_hex(octets: &[u8], digits: &mut [u8; 2 * PIECE_LEN])
+pub(super) fn write_digits(octets: &[u8], digits: &mut [u8; 2 * PIECE_LEN])
     requires { length octets.now ≤ 128 }
     ensures { take (2 * length octets.now) digits.new ≡ hex_of octets.now }
 {

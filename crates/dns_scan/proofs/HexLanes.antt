@@ -1,14 +1,17 @@
 -- Vectors of numbers below 16, and their hexadecimal digits lane by lane.
-use Rattle.std.proofs.Common.{◌≡◌, ◌+◌, ◌-◌, ◌*◌, ◌%◌, ◌/◌, ◌<◌, ◌≤◌, ◌++◌, ℕ, true, cond, List, [], ◌∷◌, nat_lt, map, length, take, drop, refl, sym, ◌∙◌, ap, subst, arith}
+use Rattle.std.proofs.Common.{◌≡◌, ◌+◌, ◌-◌, ◌*◌, ◌%◌, ◌/◌, ◌<◌, ◌≤◌, ◌++◌, ℕ, zero, suc, true, cond, List, [], ◌∷◌, nat_lt, map, length, take, drop, refl, sym, ◌∙◌, ap, subst, arith}
 use Rattle.std.specs.Fmt.{digit_glyph}
 use Rattle.std.specs.List.{AllByRecursion}
+use Rattle.std.specs.Str.{IsAscii, IsUtf8}
+use Rattle.std.proofs.lemmas.Str.{IsUtf8-from_ascii}
+use Rattle.dns_label.specs.Octets.{AreOctets}
 use Rattle.std.proofs.lemmas.Bool.Decides.{nat_tests}
 use Rattle.std.proofs.lemmas.Grind.{flat_map-append}
 use Rattle.std.proofs.lemmas.List.{length-take-le, length-drop, take-take, take_all, take_at}
 use Rattle.std.proofs.lemmas.Slice.{take-put_mid}
 use Rattle.std.proofs.Math.Seq.{take-add}
 use Rattle.dns_name.specs.UnknownText.{hex_of}
-use Rattle.zone_general.specs.Base16.{IsHexNumber}
+use Rattle.dns_scan.specs.Base.{IsHexNumber}
 use lib.Lanes.{zip2, sel_l, top}
 use lib.ListN.{replicate}
 use borrow.Rule.Slice.PartMut.{put_mid}
@@ -83,3 +86,19 @@ last_written digits octets new at size within enough few room before is =
     let written = piece_written digits octets new last size (omega (arith, enough)) (omega (arith, room)) so_far is in
     subst (λ (n : ℕ). take (2 * n) (put_mid (2 * last) size digits new) ≡ hex_of (take n octets)) all written
     ∙ ap hex_of (take_all (length octets) octets (omega arith))
+
+-- the digits are ASCII
+glyph_small : (n : ℕ) → n < 16 → digit_glyph true n < 128
+glyph_small n small = grind (arith, nat_tests, small)
+
+hex_ascii : (octets : List ℕ) → AreOctets octets → IsAscii (hex_of octets)
+hex_ascii [] are i = omega arith
+hex_ascii (octet ∷ octets) are zero = glyph_small (octet / 16) (omega (arith, are.0))
+hex_ascii (octet ∷ octets) are (suc zero) = glyph_small (octet % 16) (omega arith)
+hex_ascii (octet ∷ octets) are (suc (suc i)) = hex_ascii octets are.1 i
+
+pub hex_utf8 : (octets : List ℕ) → AreOctets octets → IsUtf8 (hex_of octets)
+hex_utf8 octets are = IsUtf8-from_ascii (hex_of octets) (hex_ascii octets are)
+
+pub hex_parts : (front rest : List ℕ) → hex_of (front ++ rest) ≡ hex_of front ++ hex_of rest
+hex_parts front rest = flat_map-append pair_of front rest

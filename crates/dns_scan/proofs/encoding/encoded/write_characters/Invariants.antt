@@ -3,7 +3,7 @@ use Rattle.std.specs.List.{AllByRecursion}
 use Rattle.std.specs.Fmt.{HasWritten, IsPlainFormatter}
 use Rattle.dns_scan.specs.Bits.{all_bits, numbers_of}
 use Rattle.dns_scan.specs.Base.{width, size, character}
-use Rattle.dns_scan.proofs.encoding.encoded.write_encoded.Given as goal
+use Rattle.dns_scan.proofs.encoding.encoded.write_characters.Given as goal
 
 abbrev pub invariant-loop-number : goal.invariant-loop-number
 invariant-loop-number g l =
