@@ -11,6 +11,7 @@ pub fn answer(alloc: Global, row: &mut Row<'_>, out: &mut Answer) -> Result<(), 
             encode_string(alloc, row, out)
         }
         "base16::display" | "base32::display" | "base64::display" => display(alloc, row, out),
+        "base16::append" => append(alloc, row, out),
         "base16::Decoder" => push_all_16(alloc, row, out),
         "base32::Decoder" => push_all_32(alloc, row, out),
         "base64::Decoder" => push_all_64(alloc, row, out),
@@ -46,6 +47,14 @@ fn display(alloc: Global, row: &mut Row<'_>, out: &mut Answer) -> Result<(), Row
         _ => base64::display(octets.as_slice()),
     };
     out.shown(&shown)
+}
+
+/// Appends the text of octets to another text.
+fn append(alloc: Global, row: &mut Row<'_>, out: &mut Answer) -> Result<(), RowError> {
+    let octets = row.octets(alloc)?;
+    let mut text = Vec::from_slice(alloc, b"text ")?;
+    base16::append(octets.as_slice(), &mut text)?;
+    out.octets(text.as_slice())
 }
 
 /// Pushes each character of a text to a decoder, and then finalizes it. Writes the result of each

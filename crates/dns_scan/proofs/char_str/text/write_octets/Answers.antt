@@ -46,5 +46,5 @@ loop-octet-preserved g c = λ plain.
       (so_far.0 ++ run) ++ symbol,
       has_written_append _ _ _ _ _ _ front (search rules),
       append_assoc (so_far.0 ++ run) symbol (text_of c.args.style others) ∙ append_assoc so_far.0 run (symbol ++ text_of c.args.style others)
-      ∙ ap (λ l. so_far.0 ++ l) (sym (ap (text_of c.args.style) whole ∙ run_and_symbol c.args.style run others octet all)) ∙ so_far.2,
+          ∙ ap (λ l. so_far.0 ++ l) (sym (ap (text_of c.args.style) whole ∙ run_and_symbol c.args.style run others octet all)) ∙ so_far.2,
     )

@@ -23,18 +23,18 @@ pub loop-left-preserved : goal.loop-left-preserved
 loop-left-preserved g c = (
   subst (λ (l : List ℕ). AreOctets l) (sym c.split_at.ensures.back) (are_dropped _ c.loop-left.left.now c.loop-left.invariant.0),
   λ plain.
-    let so_far = c.loop-left.invariant.1 plain in
-    let piece = c.split_at.result.0.now in
-    let behind = c.split_at.result.1.now in
-    let are : AreOctets piece = subst (λ (l : List ℕ). AreOctets l) (sym c.split_at.ensures.front) (are_taken _ c.loop-left.left.now c.loop-left.invariant.0) in
-    let whole : c.loop-left.left.now ≡ piece ++ behind = search rules in
-    let long : length piece ≡ 3 * c.min-count.result = search rules in
-    let shown : c.from_utf8_unchecked.result.now ≡ characters_of SixtyFour piece = c.from_utf8_unchecked.ensures ∙ c.put_fours.ensures in (
-      so_far.0 ++ characters_of SixtyFour piece,
-      has_written_append _ _ _ _ _ _ so_far.1 (search rules),
-      append_assoc so_far.0 (characters_of SixtyFour piece) (encoded SixtyFour behind)
-      ∙ ap (λ l. so_far.0 ++ l) (encoded_join c.min-count.result piece behind long are ∙ ap (encoded SixtyFour) (sym whole)) ∙ so_far.2,
-    ),
+      let so_far = c.loop-left.invariant.1 plain in
+      let piece = c.split_at.result.0.now in
+      let behind = c.split_at.result.1.now in
+      let are : AreOctets piece = subst (λ (l : List ℕ). AreOctets l) (sym c.split_at.ensures.front) (are_taken _ c.loop-left.left.now c.loop-left.invariant.0) in
+      let whole : c.loop-left.left.now ≡ piece ++ behind = search rules in
+      let long : length piece ≡ 3 * c.min-count.result = search rules in
+      let shown : c.from_utf8_unchecked.result.now ≡ characters_of SixtyFour piece = c.from_utf8_unchecked.ensures ∙ c.put_fours.ensures in (
+        so_far.0 ++ characters_of SixtyFour piece,
+        has_written_append _ _ _ _ _ _ so_far.1 (search rules),
+        append_assoc so_far.0 (characters_of SixtyFour piece) (encoded SixtyFour behind)
+            ∙ ap (λ l. so_far.0 ++ l) (encoded_join c.min-count.result piece behind long are ∙ ap (encoded SixtyFour) (sym whole)) ∙ so_far.2,
+      ),
 )
 
 pub returns : goal.returns

@@ -23,13 +23,13 @@ pub loop-left-preserved : goal.loop-left-preserved
 loop-left-preserved g c = (
   subst (λ (l : List ℕ). AreOctets l) (sym c.split_at.ensures.back) (are_dropped _ c.loop-left.left.now c.loop-left.invariant.0),
   λ plain.
-    let so_far = c.loop-left.invariant.1 plain in
-    let piece = c.split_at.result.0.now in
-    let behind = c.split_at.result.1.now in
-    let whole : c.loop-left.left.now ≡ piece ++ behind = search rules in
-    let shown : c.from_utf8_unchecked.result.now ≡ hex_of piece = c.from_utf8_unchecked.ensures ∙ c.write_digits.ensures in (
-      so_far.0 ++ hex_of piece,
-      has_written_append _ _ _ _ _ _ so_far.1 (search rules),
-      append_assoc so_far.0 (hex_of piece) (hex_of behind) ∙ ap (λ l. so_far.0 ++ l) (sym (hex_parts piece behind) ∙ ap hex_of (sym whole)) ∙ so_far.2,
-    ),
+      let so_far = c.loop-left.invariant.1 plain in
+      let piece = c.split_at.result.0.now in
+      let behind = c.split_at.result.1.now in
+      let whole : c.loop-left.left.now ≡ piece ++ behind = search rules in
+      let shown : c.from_utf8_unchecked.result.now ≡ hex_of piece = c.from_utf8_unchecked.ensures ∙ c.write_digits.ensures in (
+        so_far.0 ++ hex_of piece,
+        has_written_append _ _ _ _ _ _ so_far.1 (search rules),
+        append_assoc so_far.0 (hex_of piece) (hex_of behind) ∙ ap (λ l. so_far.0 ++ l) (sym (hex_parts piece behind) ∙ ap hex_of (sym whole)) ∙ so_far.2,
+      ),
 )
