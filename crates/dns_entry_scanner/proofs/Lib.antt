@@ -13,3 +13,4 @@ pub mod Gaps
 pub mod Refused
 pub mod OneLabel
 pub mod HandedOn
+pub mod TakenTokens

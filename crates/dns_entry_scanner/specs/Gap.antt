@@ -15,3 +15,8 @@ end_in text span = min (start_of span) (length text) + length (token_in text spa
 abbrev pub gap_before : List ℕ → ℕ → List TokenSpan → List ℕ
 gap_before text place [] = []
 gap_before text place (span ∷ spans) = drop place (take (first_of span) text)
+
+-- the place after the last of the tokens, with its closing quote, or the given place without a token
+abbrev pub place_after : List ℕ → ℕ → List TokenSpan → ℕ
+place_after text place [] = place
+place_after text place (span ∷ spans) = place_after text (end_in text span) spans

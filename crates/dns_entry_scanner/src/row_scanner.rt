@@ -1,5 +1,5 @@
 //! A scanner over the tokens of a row.
-ghost use Rattle.std.specs.Prelude.{◌≡◌, ◌∷◌, ℕ, Bool, true, List, [], All, drop, map, option_copied, IfOk, IfErr, IfSome, IfNone, OnErr};
+ghost use Rattle.std.specs.Prelude.{◌≡◌, ◌≤◌, ◌∷◌, ℕ, Bool, true, List, [], All, drop, length, map, option_copied, IfOk, IfErr, IfSome, IfNone, OnErr};
 ghost use Rattle.dns_entry_scanner.specs.Gap.{end_in, gap_before};
 ghost use Rattle.dns_entry_scanner.specs.RowToken.{token_of};
 ghost use Rattle.dns_entry_scanner.specs.declared.entry_error.EntryError.TheVariants.{EndOfEntry};
@@ -23,19 +23,22 @@ use std::marker::PhantomData;
 pub struct RowScanner<'t, N = ScannedName> {
     alloc: Global,
     text: &'t [u8],
-    /// The place after the last token that was taken and its closing quote, or the start of the row.
+    /// The place at which the row begins.
     place: usize,
-    /// The places of the remaining tokens.
-    left: &'t [TokenSpan],
+    /// The places of the row's tokens.
+    spans: &'t [TokenSpan],
+    /// The number of tokens that were taken.
+    taken: usize,
     origin: Option<&'t Name<Vec<u8>>>,
     /// Whether the spans are of a row that was found in the text, so that they say which tokens have a backslash.
     is_row: bool,
     names: PhantomData<N>,
-    ghost marked: { is_row ≡ true → All (IsPlainUnmarked text.now) left.now },
+    ghost marked: { is_row ≡ true → All (IsPlainUnmarked text.now) spans.now },
+    ghost within: { taken ≤ length spans.now },
 }
 
 impl<'t, N> RowScanner<'t, N> {
-    ghost use Rattle.dns_entry_scanner.specs.RowScanner.{gap_of, names_of, origin_of, tokens_of};
+    ghost use Rattle.dns_entry_scanner.specs.RowScanner.{gap_of, names_of, origin_of, place_of, tokens_of};
 
     /// Returns a scanner over the tokens of the spans in the text. The row begins at the place. Scanned values are
     /// allocated with `alloc`.
@@ -90,7 +93,8 @@ impl<'t, N> RowScanner<'t, N> {
             alloc,
             text,
             place,
-            left: spans,
+            spans,
+            taken: 0,
             origin,
             is_row,
             names: PhantomData,
@@ -98,11 +102,12 @@ impl<'t, N> RowScanner<'t, N> {
     }
 
     /// Returns the next token without taking it.
+    #[inline(always)]
     fn peek(&self) -> Option<RowToken<'t>>
         ensures some { IfSome result (λ token. tokens_of self.now ≡ token_of token ∷ drop 1 (tokens_of self.now)) }
         ensures none { IfNone result (tokens_of self.now ≡ []) }
     {
-        let (span, _) = self.left.split_first()?;
+        let span = self.spans.get(self.taken)?;
         Some(RowToken {
             text: span.text(self.text),
             from: &self.text[span.start().min(self.text.len())..],
@@ -117,22 +122,13 @@ impl<'t, N> RowScanner<'t, N> {
         ensures err { OnErr result ((tokens_of self.old ≡ []) × (tokens_of self.new ≡ [])) }
         ensures end { IfErr result (λ error. error ≡ EndOfEntry) }
         ensures names { SameNames (names_of self.old) (names_of self.new) }
-        ensures gap { (span : TokenSpan) (spans : List TokenSpan) → self.old.left.now ≡ span ∷ spans
+        ensures gap { (span : TokenSpan) (spans : List TokenSpan) → drop self.old.taken self.old.spans.now ≡ span ∷ spans
             → gap_of self.new ≡ gap_before self.old.text.now (end_in self.old.text.now span) spans }
     {
-        let Some((span, behind)) = self.left.split_first() else {
+        let Some(token) = self.peek() else {
             return Err(EntryError::EndOfEntry);
         };
-        let token = RowToken {
-            text: span.text(self.text),
-            from: &self.text[span.start().min(self.text.len())..],
-            quoted: span.is_quoted(),
-            bare: self.is_row && !span.has_escape(),
-        };
-        self.place = span.start().min(self.text.len())
-            + token.text.len()
-            + usize::from(token.quoted);
-        self.left = behind;
+        self.taken += 1;
         Ok(token)
     }
 
@@ -140,12 +136,24 @@ impl<'t, N> RowScanner<'t, N> {
     fn gap(&self) -> &'t [u8]
         ensures { result.now ≡ gap_of self.now }
     {
-        let Some((next, _)) = self.left.split_first() else {
+        let Some(next) = self.spans.get(self.taken) else {
             return &[];
         };
         let end = next.start().saturating_sub(usize::from(next.is_quoted()));
         let before = &self.text[..end.min(self.text.len())];
-        &before[self.place.min(before.len())..]
+        &before[self.taken_end().min(before.len())..]
+    }
+
+    /// Returns the place after the last token that was taken and its closing quote, or the start of the row.
+    fn taken_end(&self) -> usize
+        ensures { result ≡ place_of self.now }
+    {
+        let Some((last, _)) = self.spans[..self.taken].split_last() else {
+            return self.place;
+        };
+        last.start().min(self.text.len())
+            + last.text(self.text).len()
+            + usize::from(last.is_quoted())
     }
 }
 

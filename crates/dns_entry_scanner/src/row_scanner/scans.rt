@@ -28,7 +28,7 @@ impl<'t, N: TextName> Scanner for RowScanner<'t, N> {
     }
 
     fn continues(&mut self) -> bool {
-        !self.left.is_empty()
+        self.taken < self.spans.len()
     }
 
     fn scan_octets(&mut self) -> Result<Vec<u8>, EntryError> {
