@@ -33,7 +33,7 @@ pub fn line_end(text: &[u8], place: usize) -> usize
 }
 
 /// Octets that stand for themselves in an unquoted token.
-pub(crate) struct WordOctets;
+struct WordOctets;
 
 impl OctetKind for WordOctets {
     ghost has = { is_in_word };

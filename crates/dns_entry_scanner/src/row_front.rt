@@ -1,16 +1,14 @@
 //! The fronts of rows: words, white space and parentheses alone, found by one mask of 64 octets.
-ghost use Rattle.std.specs.Prelude.{◌≡◌, ◌≤◌, ◌<◌, ◌+◌, [], false, true, List, ℕ, length, map, not, drop, IfOk};
+ghost use Rattle.std.specs.Prelude.{◌≡◌, ◌≤◌, ◌<◌, ◌+◌, [], false, true, List, ℕ, length, map, not, drop, IfOk, IsTrue};
 ghost use Rattle.std.specs.List.{prefix_len};
 ghost use Rattle.std.specs.Simd.Lanes.{chunk, mask_l};
 ghost use Rattle.dns_text.specs.Rows.{is_led};
 ghost use Rattle.dns_entry_scanner.specs.BegunRow.{BegunRow};
-ghost use Rattle.dns_entry_scanner.specs.Octets.{is_in_word};
+ghost use Rattle.dns_entry_scanner.specs.Octets.{ends_word, may_end_word};
 ghost use Rattle.dns_entry_scanner.specs.RowFound.{IsRowAt};
 
 use crate::TokenSpan;
 use crate::head::{Head, head_of, is_space};
-use crate::plain_octets::WordOctets;
-use dns_name::OctetKind;
 use std::alloc::AllocError;
 use std::simd::prelude::*;
 
@@ -52,8 +50,8 @@ impl RowFront {
     }
 }
 
-/// Reads a row from the place on, as far as it is words without a backslash, white space and parentheses, within 64 octets. Pushes
-/// its tokens. Most rows are whole then.
+/// Reads a row from the place on, as far as it is words, white space and parentheses, within 64 octets. Pushes its tokens. Most
+/// rows are whole then. It ends before a word with a backslash or one of `!` to `'`.
 ///
 /// Fails if out of memory.
 pub(crate) fn read_front(
@@ -78,14 +76,15 @@ pub(crate) fn read_front(
         let len = word_len(ends, at);
         if len > 0 {
             let behind = text[place + at + len];
-            if behind == b'\\' {
-                break;
-            }
-            tokens.push(TokenSpan::word(place + at, len))?;
-            at += len;
-            // Most words have one space behind them.
+            // Most words have one space after them.
             if is_space(behind) {
-                at += 1;
+                tokens.push(TokenSpan::word(place + at, len))?;
+                at += len + 1;
+            } else if ends_word(behind) {
+                tokens.push(TokenSpan::word(place + at, len))?;
+                at += len;
+            } else {
+                break;
             }
         } else {
             match head_of(inside, text[place + at]) {
@@ -101,15 +100,14 @@ pub(crate) fn read_front(
     Ok(RowFront::part(place + at, inside))
 }
 
-/// Returns the length of the word that begins with the octet at the index, by the mask of 64 octets that are in no word. Returns 0
-/// if there is none, or if it does not end among them.
+/// Returns the number of octets from the index on before one that may end a word, by the mask of these among 64 octets. Returns 0
+/// if there is none, or if no such octet follows.
 #[inline(always)]
 fn word_len(ends: u64, at: usize) -> usize
     requires { at < 64 }
-    ensures len { (octets : List ℕ) → length octets ≡ 64 → ends ≡ mask_l (map (λ octet. not (is_in_word octet)) octets)
-        → 0 < result → result ≡ prefix_len is_in_word (drop at octets) }
-    ensures within { (octets : List ℕ) → length octets ≡ 64 → ends ≡ mask_l (map (λ octet. not (is_in_word octet)) octets)
-        → at + result < 64 }
+    ensures len { (octets : List ℕ) → length octets ≡ 64 → ends ≡ mask_l (map may_end_word octets)
+        → 0 < result → result ≡ prefix_len (λ octet. not (may_end_word octet)) (drop at octets) }
+    ensures within { (octets : List ℕ) → length octets ≡ 64 → ends ≡ mask_l (map may_end_word octets) → at + result < 64 }
 {
     let behind = ends >> at as u32;
     if behind == 0 {
@@ -119,15 +117,34 @@ fn word_len(ends: u64, at: usize) -> usize
     }
 }
 
-/// Returns a mask of the octets that are in no word: a bit for each of 64 octets from the place on, the lowest for the first.
+/// Returns whether a word ends before the octet. Spaces and tabs are left out, and octets that no row has after a word.
+#[inline(always)]
+fn ends_word(octet: u8) -> bool
+    ensures { IsTrue result → ends_word octet ≡ true }
+{
+    matches!(octet, b'\n' | b'\r' | b'(' | b')' | b'"' | b';')
+}
+
+/// Returns a mask of the octets that may end a word: a bit for each of 64 octets from the place on, the lowest for the first.
 #[inline(always)]
 fn word_ends(text: &[u8], place: usize) -> u64
     requires { place + 64 ≤ length text.now }
-    ensures { result ≡ mask_l (map (λ octet. not (is_in_word octet)) (chunk place 64 text.now)) }
+    ensures { result ≡ mask_l (map may_end_word (chunk place 64 text.now)) }
 {
-    let first = WordOctets::others(u8x16::from_slice(&text[place..]));
-    let second = WordOctets::others(u8x16::from_slice(&text[place + 16..]));
-    let third = WordOctets::others(u8x16::from_slice(&text[place + 32..]));
-    let fourth = WordOctets::others(u8x16::from_slice(&text[place + 48..]));
+    let first = may_end_word(u8x16::from_slice(&text[place..]));
+    let second = may_end_word(u8x16::from_slice(&text[place + 16..]));
+    let third = may_end_word(u8x16::from_slice(&text[place + 32..]));
+    let fourth = may_end_word(u8x16::from_slice(&text[place + 48..]));
     first + second * 0x1_0000 + third * 0x1_0000_0000 + fourth * 0x1_0000_0000_0000
+}
+
+/// Returns a mask of the octets that may end a word: those that are in no word, and those from `!` to `'`, which takes four
+/// comparisons in place of seven.
+#[inline(always)]
+fn may_end_word(octets: u8x16) -> u64
+    ensures { result ≡ mask_l (map may_end_word octets) }
+{
+    let outside = octets.simd_lt(u8x16::splat(b'*')) | octets.simd_gt(u8x16::splat(b'~'));
+    let marks = octets.simd_eq(u8x16::splat(b';')) | octets.simd_eq(u8x16::splat(b'\\'));
+    (outside | marks).to_bitmask()
 }

@@ -1,13 +1,12 @@
-use Rattle.std.proofs.Common.{◌≡◌, ◌+◌, ◌<◌, ◌++◌, ◌∷◌, ◌∙◌, [], ap, arith, drop, get_or, rules, subst, sym, length}
+use Rattle.std.proofs.Common.{◌+◌, ◌<◌, ◌++◌, ◌∷◌, ◌∙◌, [], ap, arith, drop, rules, subst, sym, length}
 use Rattle.dns_text.specs.Rows.{is_led}
-use Rattle.dns_text.specs.Tokens.{head_of}
 use lib.Lanes.{chunk}
 use Rattle.std.proofs.lemmas.Simd.{length-chunk}
 use Rattle.dns_entry_scanner.specs.BegunRow.{BegunRow}
 use Rattle.dns_entry_scanner.specs.RowFound.{IsRowAt}
 use Rattle.dns_entry_scanner.specs.declared.row_front.RowFront.{RowFront}
 use Rattle.dns_entry_scanner.specs.declared.token_span.TokenSpan.{TokenSpan}
-use Rattle.dns_entry_scanner.proofs.RowFronts.{front_feed, front_gap, front_none, front_word, window}
+use Rattle.dns_entry_scanner.proofs.RowFronts.{front_feed, front_gap, front_none, front_spaced, front_word, window}
 use Rattle.dns_entry_scanner.proofs.row_front.read_front.Goals as goal
 
 pub loop-at-init : goal.loop-at-init
@@ -49,17 +48,23 @@ overflow_add-at-then-is_space c =
     let less = c.word_len-len.ensures.within (chunk c.args.place 64 text) (length-chunk c.args.place 64 text (omega arith)) c.word_ends-ends.ensures in
     omega (arith, less)
 
-pub loop-at-preserved-else-is_space : goal.loop-at-preserved-else-is_space
-loop-at-preserved-else-is_space c =
+pub overflow_add-at-then-ends_word : goal.overflow_add-at-then-ends_word
+overflow_add-at-then-ends_word c =
+    let text = c.args.text.now in
+    let less = c.word_len-len.ensures.within (chunk c.args.place 64 text) (length-chunk c.args.place 64 text (omega arith)) c.word_ends-ends.ensures in
+    omega (arith, less)
+
+pub loop-at-preserved-then-ends_word : goal.loop-at-preserved-then-ends_word
+loop-at-preserved-then-ends_word c =
     let text = c.args.text.now in
     let some : 0 < c.word_len-len.result = omega arith in
     let less = c.word_len-len.ensures.within (chunk c.args.place 64 text) (length-chunk c.args.place 64 text (omega arith)) c.word_ends-ends.ensures in
     let word =
     window text c.args.place c.loop-at.at c.word_len-len.result c.word_ends-ends.result (omega arith) c.word_ends-ends.ensures some
     c.word_len-len.ensures.len c.word_len-len.ensures.within in
-    let pushed = c.in_ok-push.ensures.items ∙ ap (λ (s : TokenSpan). c.loop-at.tokens.items ++ s ∷ []) c.word.ensures in record {
+    let pushed = c.in_ok-push-2.ensures.items ∙ ap (λ (s : TokenSpan). c.loop-at.tokens.items ++ s ∷ []) c.word-then-ends_word.ensures in record {
       within = omega (arith, less);
-      held = λ start held. front_word c.args.place c.loop-at.at c.word_len-len.result (omega arith) word some c.if-behind-eq92.false
+      held = λ start held. front_word c.args.place c.loop-at.at c.word_len-len.result (omega arith) word some (c.ends_word.ensures c.if-ends_word.true)
           (c.loop-at.invariant.held start held) pushed;
     }
 
@@ -71,13 +76,10 @@ loop-at-preserved-then-is_space c =
     let word =
     window text c.args.place c.loop-at.at c.word_len-len.result c.word_ends-ends.result (omega arith) c.word_ends-ends.ensures some
     c.word_len-len.ensures.len c.word_len-len.ensures.within in
-    let pushed = c.in_ok-push.ensures.items ∙ ap (λ (s : TokenSpan). c.loop-at.tokens.items ++ s ∷ []) c.word.ensures in
-    let behind : c.args.place + (c.loop-at.at + c.word_len-len.result) ≡ c.args.place + c.loop-at.at + c.word_len-len.result = omega arith in record {
+    let pushed = c.in_ok-push.ensures.items ∙ ap (λ (s : TokenSpan). c.loop-at.tokens.items ++ s ∷ []) c.word.ensures in record {
       within = omega (arith, less);
-      held = λ start held. front_gap c.loop-at.inside c.args.place (c.loop-at.at + c.word_len-len.result) (omega (arith, less))
-          (ap (λ n. head_of c.loop-at.inside (get_or text n 0)) behind ∙ c.is_space.ensures c.if-is_space.true c.loop-at.inside)
-          (front_word c.args.place c.loop-at.at c.word_len-len.result (omega arith) word some c.if-behind-eq92.false
-          (c.loop-at.invariant.held start held) pushed);
+      held = λ start held. front_spaced c.args.place c.loop-at.at c.word_len-len.result (omega arith) word some (c.is_space.ensures c.if-is_space.true)
+          (c.loop-at.invariant.held start held) pushed;
     }
 
 pub returns-clause-begun : goal.returns-clause-begun
