@@ -1,9 +1,10 @@
 //! Scanning data of any type into octets.
-ghost use Rattle.std.specs.Prelude.{◌≡◌, ◌∷◌, [], ℕ, Some, None, false, true, IfErr, IfOk, IsTrue, OnErr, OnOk};
+ghost use Rattle.std.specs.Prelude.{◌≡◌, ◌≤◌, ◌∷◌, ◌++◌, List, [], ℕ, length, Some, None, false, true, IfErr, IfOk, IsTrue, OnErr, OnOk};
 ghost use Rattle.dns_fields.specs.Fields.{kinds_of};
 ghost use Rattle.dns_fields.specs.Scanned.{NoDataScans};
 ghost use Rattle.dns_rdata.specs.Data.{IsUnmarked, NoAnyDataScans};
 ghost use Rattle.dns_scan.specs.Token.{SameNames, marker};
+ghost use Rattle.dns_scan.specs.UnknownData.{IsUnknownData};
 ghost use Rattle.dns_scan_data.specs.Appended.{AppendsData, AppendsTyped, GoesOn};
 
 use crate::ScanRowInto;
@@ -56,6 +57,27 @@ fn scan_unknown_into<S: Scanner>(
     ensures same { OnErr result (octets.new.items ≡ octets.old.items) }
     ensures names { SameNames (S.names scanner.old) (S.names scanner.new) }
 {
+    match scan_unknown_octets_into(scanner, octets) {
+        Ok(()) => Ok(true),
+        Err(error) => Err(error),
+    }
+}
+
+/// Scans the octets of unknown data whose marker `\#` was taken, and appends them: their number, and then all words that
+/// are left, joined to one text in base 16 (RFC 3597 5).
+///
+/// Fails with an error other than `short_buf` only if the tokens are no such data. Nothing is then appended.
+pub fn scan_unknown_octets_into<S: Scanner>(
+    scanner: &mut S,
+    octets: &mut Vec<u8>,
+) -> Result<(), S::Error>
+    ensures ok { OnOk result ((content : List ℕ) × IsUnknownData (S.tokens scanner.old) content × (S.tokens scanner.new ≡ [])
+        × (length content ≤ 65535) × (octets.new.items ≡ octets.old.items ++ content)) }
+    ensures err { IfErr result (λ error. S.Error.is_short error ≡ false
+        → (content : List ℕ) → IsUnknownData (S.tokens scanner.old) content → ⊥) }
+    ensures same { OnErr result (octets.new.items ≡ octets.old.items) }
+    ensures names { SameNames (S.names scanner.old) (S.names scanner.new) }
+{
     let number = match u16::scan(scanner) {
         Ok(number) => number,
         Err(error) => return Err(error),
@@ -67,7 +89,7 @@ fn scan_unknown_into<S: Scanner>(
                 octets.truncate(len);
                 return Err(S::Error::custom("another number of octets"));
             }
-            Ok(true)
+            Ok(())
         }
         Err(error) => {
             octets.truncate(len);

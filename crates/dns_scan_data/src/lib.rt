@@ -10,6 +10,6 @@ mod hex;
 mod hex_piece;
 mod row;
 
-pub use data::scan_data_into;
+pub use data::{scan_data_into, scan_unknown_octets_into};
 pub use field::ScanFieldInto;
 pub use row::ScanRowInto;

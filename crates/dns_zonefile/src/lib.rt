@@ -33,6 +33,7 @@ pub use dns_entry_scanner::{
     ScannedString, TextName, TokenSpan, WireScanner, absolute, line_end, read_row, scan_name,
     to_inline_name,
 };
+pub use dns_scan_data::scan_unknown_octets_into;
 pub use entry::{ComposedEntry, Entry, IncludedFile, ScannedRecord, ScannedRecordData};
 pub use entry_reader::EntryReader;
 pub use error::Error;

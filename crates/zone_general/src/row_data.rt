@@ -14,8 +14,8 @@ use crate::found_row::FoundRow;
 use crate::stated_type::RowType;
 use dns_fields_more::scan_further_into;
 use dns_name::{Name, Rtype};
-use dns_text::{Scanner, scan_unknown_octets};
-use dns_zonefile::{EntryError, InlineName, RowScanner, TokenSpan};
+use dns_text::Scanner;
+use dns_zonefile::{EntryError, InlineName, RowScanner, TokenSpan, scan_unknown_octets_into};
 use std::alloc::Global;
 
 /// Returns whether the data of the row is in general form. The word for its type is at the index.
@@ -114,9 +114,7 @@ fn scan_general(
     let mut scanner: RowScanner<'_, InlineName> = RowScanner::new(
         alloc, row.text, row.place, words, None,
     );
-    let data: Vec<u8> = scan_unknown_octets(&mut scanner)?;
-    octets.extend_from_slice(&data)?;
-    Ok(())
+    scan_unknown_octets_into(&mut scanner, octets)
 }
 
 /// Appends the octets of the fields of a further type, which are the tokens of the scanner.
