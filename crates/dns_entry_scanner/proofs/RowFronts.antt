@@ -5,10 +5,9 @@ use lib.Count.{count_trailing_zeros}
 use lib.Lanes.{chunk, mask_l}
 use Rattle.std.specs.List.{prefix_len}
 use Rattle.std.proofs.Math.Seq.{drop-append-le, take-add}
-use Rattle.core.proofs.slice.Prefixes.{prefix_len_is}
 use Rattle.std.proofs.lemmas.Bool.{eqb-false, le-ltb, ltb-false, ne_eqb, not-true, or_from, or_parts}
 use Rattle.std.proofs.lemmas.List.{drop-drop, drop_more, get_or-drop, length-map, take_all}
-use Rattle.std.proofs.lemmas.List.Sums.{prefix_len_passes}
+use Rattle.std.proofs.lemmas.List.Sums.{prefix_len_is, prefix_len_passes}
 use Rattle.std.proofs.lemmas.Simd.{chunk-drop, length-chunk, mask_l-lt, trailing_mask_l}
 use Rattle.dns_label.proofs.OctetRuns.{last_mask}
 use Rattle.dns_text.specs.Rows.{is_led}
