@@ -10,7 +10,7 @@ use std::alloc::AllocError;
 /// Appends the general form of data with these octets: `\#`, their number, and if there are any, these in base 16.
 ///
 /// Fails if out of memory. It may then have appended a part of the form.
-#[tactic(auto, using(crate::proofs::GeneralForm::form_none, crate::proofs::GeneralForm::form_some))]
+#[tactic(auto, using(crate::proofs::GeneralForm::form_none))]
 pub(crate) fn append_general_form(octets: &[u8], text: &mut Vec<u8>) -> Result<(), AllocError>
     ensures text { OnOk result (text.new.items ≡ text.old.items ++ unknown_text octets.now) }
     ensures octets { AreOctets octets.now }
