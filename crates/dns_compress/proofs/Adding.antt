@@ -1,6 +1,7 @@
 -- The suffixes of a name, added one after another.
-use Rattle.std.proofs.Common.{◌≡◌, ◌+◌, ℕ, zero, suc, true, List, [], ◌∷◌, ◌++◌, length, take, drop, map, refl, sym, ◌∙◌, ap, subst, append_assoc}
+use Rattle.std.proofs.Common.{◌≡◌, ◌≤◌, ◌<◌, ◌+◌, ◌-◌, ◌*◌, ℕ, zero, suc, true, List, [], ◌∷◌, ◌++◌, length, take, drop, map, refl, sym, ◌∙◌, ap, subst, append_assoc, arith}
 use Rattle.std.specs.Char.{to_ascii_lowercase}
+use Rattle.std.proofs.Math.Nat.{mul-le-mul_left, suc-mul}
 use Rattle.std.proofs.lemmas.List.{length-map, take-append-drop}
 use Rattle.dns_octets.specs.Builder.{Standing, Known}
 use Rattle.dns_label.specs.Name.{wire, low}
@@ -72,3 +73,10 @@ added-lowered count place stop name =
     lowered_standings place stop (take count name) (drop count name)
     ∙ ap (λ (l : List (List ℕ)). standings tree_spelling place stop l (low (drop count name))) (low-take count name)
     ∙ ap (λ (l : List (List ℕ)). standings tree_spelling place stop (take count (low name)) l) (low-drop count name)
+
+-- room for the suffix, and for those of its parent
+pub room_rest : (count long less : ℕ) → 0 < count → less ≤ long → long + (count - 1) * less ≤ count * long
+room_rest zero long less some within = absurd (omega arith)
+room_rest (suc count) long less some within =
+    let one : suc count - 1 ≡ count = omega arith in
+    omega (arith, ap (λ n. n * less) one, mul-le-mul_left {m = less} {n = long} count within, suc-mul count long)

@@ -1,10 +1,12 @@
 -- A list of suffixes whose octets are stored one after another.
 use Rattle.std.proofs.Common.{◌≡◌, ◌≤◌, ◌+◌, ◌-◌, ℕ, zero, suc, Some, List, [], ◌∷◌, ◌++◌, length, take, drop, refl, sym, ◌∙◌, ap, arith, length-append}
 use Rattle.std.specs.Prelude.{slice_get}
-use Rattle.std.proofs.lemmas.List.{length-drop, drop-drop, drop-take, take-take, take_all, take_at, drop_at}
+use Rattle.std.proofs.lemmas.Option.{slice_get_within}
+use Rattle.std.proofs.lemmas.List.{length-drop, take-append-le, drop-drop, drop-take, take-take, take_all, take_at, drop_at}
 use Rattle.dns_octets.specs.Builder.{Known}
 use Rattle.dns_compress.specs.declared.written.Written.{Written}
-use Rattle.dns_compress.specs.Joined.{total, standings_in}
+use Rattle.dns_compress.specs.Joined.{total, standings_in, AreBackToBack}
+use Rattle.dns_compress.proofs.Elements.{get_last, get_front, each_push}
 
 pub total-append : (written more : List Written) → total (written ++ more) ≡ total written + total more
 total-append [] more = omega arith
@@ -86,3 +88,51 @@ ends_in zero (one ∷ []) last long at = ap (λ l. l ∷ []) (let e : one ≡ la
 ends_in zero (one ∷ two ∷ all) last long at = absurd (omega (arith, long))
 ends_in (suc n) [] last long at = absurd (omega (arith, long))
 ends_in (suc n) (one ∷ all) last long at = ap (λ l. one ∷ l) (ends_in n all last (omega (arith, long)) at)
+
+-- where suffixes begin
+
+pub total_within : (written : List Written) (k : ℕ) (one : Written) → slice_get written k ≡ Some one
+    → total (take k written) + one.len ≤ total written
+total_within [] k one at = absurd (cc)
+total_within (next ∷ written) zero one at =
+    let e : next.len ≡ one.len = ap (λ (o : Written). o.len) (let f : next ≡ one = cc in f) in omega (arith, e)
+total_within (next ∷ written) (suc k) one at = let e = total_within written k one at in omega (arith, e)
+
+pub standing_at : (octets : List ℕ) (written : List Written) (k : ℕ) (one : Written) → slice_get written k ≡ Some one
+    → slice_get (standings_in octets written) k
+    ≡ Some (record { suffix = take one.len (drop (total (take k written)) octets); place = one.place; stop = one.stop })
+standing_at octets [] k one at = absurd (cc)
+standing_at octets (next ∷ written) zero one at =
+    ap (λ (o : Written). Some (record { suffix = take o.len octets; place = o.place; stop = o.stop })) (let e : next ≡ one = cc in e)
+standing_at octets (next ∷ written) (suc k) one at =
+    standing_at (drop next.len octets) written k one at
+    ∙ ap (λ (l : List ℕ). Some (record { suffix = take one.len l; place = one.place; stop = one.stop })) (drop-drop (total (take k written)) next.len octets)
+
+pub standing_here : (octets found : List ℕ) (written : List Written) (k : ℕ) (here one : Written) → slice_get written k ≡ Some here
+    → slice_get written k ≡ Some one → here.start ≡ total (take k written) → found ≡ octets
+    → slice_get (standings_in octets written) k
+    ≡ Some (record { suffix = take (here.start + here.len - here.start) (drop here.start found); place = one.place; stop = one.stop })
+standing_here octets found written k here one at is begins same =
+    let long : one.len ≡ here.start + here.len - here.start =
+    omega (arith, ap (λ (o : Written). o.len) (let e : Some one ≡ Some here = sym is ∙ at in let f : one ≡ here = cc in f)) in
+    let there : take one.len (drop (total (take k written)) octets) ≡ take (here.start + here.len - here.start) (drop here.start found) =
+    ap (λ n. take n (drop (total (take k written)) octets)) long
+    ∙ ap (take (here.start + here.len - here.start))
+    (ap (λ n. drop n octets) (sym begins) ∙ ap (drop here.start) (sym same)) in
+    standing_at octets written k one is
+    ∙ ap (λ (l : List ℕ). Some (record { suffix = l; place = one.place; stop = one.stop })) there
+
+pub starts_push : (written : List Written) (last : Written) → AreBackToBack written → last.start ≡ total written → AreBackToBack (written ++ last ∷ [])
+starts_push written last starts begins =
+    each_push (λ k (one : Written). one.start ≡ total (take k (written ++ last ∷ []))) written last
+    (λ k one at. starts k one at ∙ ap total (sym (take-append-le k written (last ∷ []) (let e = slice_get_within written k one at in omega (arith, e)))))
+    (begins ∙ ap total (sym (take_at written (last ∷ []) (length written) refl)))
+
+pub starts_pop : (written : List Written) (last : Written) → AreBackToBack (written ++ last ∷ []) → AreBackToBack written
+starts_pop written last starts k one at =
+    starts k one (get_front written (last ∷ []) k one at)
+    ∙ ap total (take-append-le k written (last ∷ []) (let e = slice_get_within written k one at in omega (arith, e)))
+
+pub last_start : (written : List Written) (last : Written) → AreBackToBack (written ++ last ∷ []) → last.start ≡ total written
+last_start written last starts =
+    starts (length written) last (get_last written last) ∙ ap total (take_at written (last ∷ []) (length written) refl)

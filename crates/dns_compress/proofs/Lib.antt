@@ -1,8 +1,11 @@
+pub mod Elements
 pub mod Framing
 pub mod Adding
 pub mod InOrder
 pub mod Kept
+pub mod Index
 pub mod Keys
+pub mod LookUp
 pub mod Lowered
 pub mod Naming
 pub mod Orders
@@ -10,7 +13,6 @@ pub mod Sound
 pub mod Spots
 pub mod SpotsFound
 pub mod Texts
-pub mod Waiting
 pub mod Walking
 pub mod Joined
 pub use Rattle.dns_compression_laws.proofs.ReadParts

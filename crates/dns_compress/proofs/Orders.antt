@@ -3,7 +3,7 @@ use Rattle.std.proofs.Common.{◌⊎◌, inl, inr, ◌≡◌, ◌≤◌, ◌<◌
 use Rattle.std.specs.Prelude.{⊤}
 use Rattle.std.specs.List.{list_all}
 use Rattle.std.specs.Coded.{Coded-set, coded_bool}
-use Rattle.std.proofs.lemmas.Bool.{and_parts, and_from, leb-true, lt-leb, le-leb, false≢true}
+use Rattle.std.proofs.lemmas.Bool.{and_parts, and_from, leb-true, le-leb, false≢true}
 use mathlib.Core.Logic.{∥∥₁_elim}
 use Rattle.dns_octets.specs.Builder.{Standing, Known, before}
 use Rattle.dns_name.specs.Spelling.{Spelling, tree_spelling, folded, is_same, standings}
@@ -31,21 +31,6 @@ order_ascends s (one ∷ known) order =
     below [] all other is = elim is [ ]
     below (next ∷ known) all other first = leb-true one.stop next.stop (before_parts _ _ (and_parts (goes_before s one next) _ all).0).1
     below (next ∷ known) all other (later is) = below known (and_parts (goes_before s one next) _ all).1 other is
-
--- if the first stops after the length, all do
-pub before_first : (s : Spelling) (len stop : ℕ) (known : Known) → in_order s known ≡ true
-    → ((one : Standing) (rest : Known) → known ≡ one ∷ rest → stop ≡ one.stop) → len < stop → before len known ≡ []
-before_first s len stop [] order at behind = refl
-before_first s len stop (one ∷ known) order at behind =
-    let is = at one known refl in
-    let up = order_ascends s (one ∷ known) order in
-    rw (lt-leb one.stop len (omega (arith, behind, is)))
-    (none_before known (λ other there. (let e = up.0 other there in omega (arith, behind, is, e))))
-  where
-    none_before : (known : Known) → ((other : Standing) → IsKnown other known → len < other.stop) → before len known ≡ []
-    none_before [] all = refl
-    none_before (other ∷ known) all =
-        rw (lt-leb other.stop len (all other first)) (none_before known (λ next there. all next (later there)))
 
 ascends-append : (known more : Known) → Ascends known → Ascends more
     → ((one other : Standing) → IsKnown one known → IsKnown other more → one.stop ≤ other.stop) → Ascends (known ++ more)

@@ -1,14 +1,13 @@
 pub mod Compressor
 pub mod Frame
-pub mod Kept
 pub mod Listed
-pub mod OctetHasher
 pub mod Ready
 pub mod Seen
 pub mod StreamTarget
 pub mod Spots
+pub mod SuffixHash
+pub mod SuffixIndex
 pub mod Tables
-pub mod Waiting
 pub mod Walk
 pub mod Joined
 pub use Rattle.dns_compression_laws.specs.Alike

@@ -3,7 +3,6 @@ use Rattle.std.specs.Prelude.{ℕ, List}
 use Rattle.dns_octets.specs.Builder.{Known}
 use Rattle.dns_compress.specs.Listed.{listed}
 use Rattle.dns_compress.specs.Ready.{IsReady}
-use Rattle.dns_compress.specs.Waiting.{suffixes_of}
 use Rattle.dns_compress.specs.declared.spot.Spot.{Spot}
 use Rattle.dns_compress.specs.declared.static_table.StaticTable.{StaticTable}
 use Rattle.dns_compress.specs.declared.tree_table.TreeTable.{TreeTable}
@@ -22,7 +21,7 @@ lowered_in table = listed table.suffixes.list
 
 -- whether these have room for a name's first suffixes
 abbrev pub exact_room : TreeTable → ℕ → List (List ℕ) → Type 0
-exact_room table count name = IsReady table.suffixes (suffixes_of count name)
+exact_room table count name = IsReady table.suffixes count name
 
 abbrev pub lowered_room : HashTable → ℕ → List (List ℕ) → Type 0
-lowered_room table count name = IsReady table.suffixes (suffixes_of count name)
+lowered_room table count name = IsReady table.suffixes count name

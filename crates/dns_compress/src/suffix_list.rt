@@ -1,7 +1,8 @@
 //! Suffixes in the order of writing.
-ghost use Rattle.std.specs.Prelude.{◌≡◌, ◌≤◌, ◌+◌, ◌-◌, ◌++◌, ◌∷◌, [], List, ℕ, length, take, IfSome, IfNone, OnOk, OnErr};
+ghost use Rattle.std.specs.Prelude.{◌≡◌, ◌≤◌, ◌<◌, ◌+◌, ◌-◌, ◌++◌, ◌∷◌, [], List, ℕ, Some, length, take, drop, slice_get, IfSome, IfNone, OnOk};
 ghost use Rattle.dns_octets.specs.Builder.{Standing, Known};
-ghost use Rattle.dns_compress.specs.Joined.{total};
+ghost use Rattle.dns_compress.specs.Joined.{total, AreBackToBack};
+ghost use Rattle.dns_compress.specs.declared.written.Written.{Written};
 
 use crate::written::Written;
 use std::alloc::{AllocError, Global};
@@ -12,14 +13,7 @@ pub(crate) struct SuffixList {
     octets: Vec<u8>,
     written: Vec<Written>,
     ghost whole: { total written.items ≡ length octets.items },
-}
-
-/// A suffix of a list, by its octets.
-#[derive(Clone, Copy)]
-pub(crate) struct Suffix<'a> {
-    pub octets: &'a [u8],
-    pub place: usize,
-    pub stop: usize,
+    ghost starts: { AreBackToBack written.items },
 }
 
 impl SuffixList {
@@ -27,7 +21,8 @@ impl SuffixList {
 
     /// Makes an empty list, which grows on this allocator.
     pub fn new(alloc: Global) -> Self
-        ensures { listed result ≡ [] }
+        ensures empty { listed result ≡ [] }
+        ensures written { result.written.items ≡ [] }
     {
         SuffixList {
             octets: Vec::new(alloc),
@@ -35,53 +30,60 @@ impl SuffixList {
         }
     }
 
-    /// Returns the place after the first suffix, or 0 if there is none.
-    pub fn first_stop(&self) -> usize
-        ensures none { listed self.now ≡ [] → result ≡ 0 }
-        ensures some { (first : Standing) (known : Known) → listed self.now ≡ first ∷ known → result ≡ first.stop }
+    /// Returns how many suffixes there are.
+    #[inline(always)]
+    pub fn len(&self) -> usize
+        ensures { result ≡ length self.now.written.items }
     {
-        match self.written.first() {
-            Some(first) => first.stop,
-            None => 0,
-        }
+        self.written.len()
+    }
+
+    /// Returns the suffix at the index.
+    #[inline(always)]
+    pub fn get(&self, index: usize) -> &Written
+        requires { index < length self.now.written.items }
+        ensures { slice_get self.now.written.items index ≡ Some result.now }
+    {
+        &self.written[index]
+    }
+
+    /// Returns the octets of the suffix at the index.
+    #[inline(always)]
+    pub fn octets_at(&self, index: usize) -> &[u8]
+        requires { index < length self.now.written.items }
+        ensures { (one : Written) → slice_get self.now.written.items index ≡ Some one
+            → slice_get (listed self.now) index ≡ Some (record { suffix = result.now; place = one.place; stop = one.stop }) }
+    {
+        let one = self.get(index);
+        &self.octets[one.start..one.start + one.len]
     }
 
     /// Returns the last suffix.
-    pub fn last(&self) -> Option<Suffix<'_>>
+    #[inline(always)]
+    pub fn last(&self) -> Option<&Written>
+        ensures written { IfSome result (λ last. self.now.written.items ≡ take (length self.now.written.items - 1) self.now.written.items ++ last.now ∷ []) }
         ensures some { IfSome result (λ last. listed self.now ≡ take (length (listed self.now) - 1) (listed self.now)
-            ++ record { suffix = last.octets.now; place = last.place; stop = last.stop } ∷ []) }
+            ++ record { suffix = drop (length self.now.octets.items - last.now.len) self.now.octets.items; place = last.now.place; stop = last.now.stop } ∷ []) }
         ensures none { IfNone result (listed self.now ≡ []) }
     {
-        let last = self.written.last()?;
-        let start = self.octets.len() - last.len;
-        Some(Suffix {
-            octets: &self.octets[start..],
-            place: last.place,
-            stop: last.stop,
-        })
+        self.written.last()
     }
 
     /// Removes the last suffix.
+    #[inline(always)]
     pub fn pop(&mut self)
-        ensures { listed self.new ≡ take (length (listed self.old) - 1) (listed self.old) }
+        ensures front { listed self.new ≡ take (length (listed self.old) - 1) (listed self.old) }
+        ensures written { self.new.written.items ≡ take (length self.old.written.items - 1) self.old.written.items }
     {
         if let Some(last) = self.written.pop() {
-            let len = self.octets.len() - last.len;
-            self.octets.truncate(len);
+            self.octets.truncate(last.start);
         }
-    }
-
-    /// Removes all suffixes.
-    pub fn clear(&mut self)
-        ensures { listed self.new ≡ [] }
-    {
-        self.octets.clear();
-        self.written.clear();
     }
 
     /// Reserves room for `count` suffixes with `octets` octets in all. Fails if out of memory.
     pub fn reserve(&mut self, count: usize, octets: usize) -> Result<(), AllocError>
         ensures same { listed self.new ≡ listed self.old }
+        ensures written { self.new.written.items ≡ self.old.written.items }
         ensures room { OnOk result (HasRoom self.new count octets) }
     {
         self.written.reserve(count)?;
@@ -90,15 +92,25 @@ impl SuffixList {
     }
 
     /// Appends the suffix with these octets. There must be room.
-    pub fn push(&mut self, suffix: &[u8], place: usize, stop: usize)
+    #[inline(always)]
+    pub fn push(&mut self, suffix: &[u8], place: usize, stop: usize, hash: u64, older: usize)
         requires { HasRoom self.old 1 (length suffix.now) }
         ensures last { listed self.new ≡ listed self.old ++ record { suffix = suffix.now; place = place; stop = stop } ∷ [] }
+        ensures written { self.new.written.items ≡ self.old.written.items ++ record { start = length self.old.octets.items; len = length suffix.now; place = place; stop = stop; hash = hash; older = older } ∷ [] }
         ensures room { (count octets : ℕ) → HasRoom self.old (count + 1) (length suffix.now + octets) → HasRoom self.new count octets }
     {
+        let start = self.octets.len();
         let len = suffix.len();
         if self.octets.extend_from_slice(suffix).is_err() {
             unreachable!();
         }
-        self.written.push_reserved(Written { len, place, stop });
+        self.written.push_reserved(Written {
+            start,
+            len,
+            place,
+            stop,
+            hash,
+            older,
+        });
     }
 }

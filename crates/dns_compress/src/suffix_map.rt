@@ -1,30 +1,27 @@
 //! Any number of suffixes, by their octets.
-ghost use Rattle.std.specs.Prelude.{◌≡◌, ◌≤◌, ◌<◌, ◌+◌, ◌*◌, ◌++◌, ◌∷◌, ◌^◌, [], List, ℕ, Some, None, true, false, cond, length, nat_eq, OnOk, IfOk};
-ghost use Rattle.std.specs.Cmp.Lexicographic.{pointwise};
-ghost use Rattle.std.specs.HashMap.{IsEmpty, spare};
-ghost use Rattle.dns_octets.specs.Builder.{Known, Standing, before};
+ghost use Rattle.std.specs.Prelude.{◌≡◌, ◌≤◌, ◌<◌, ◌+◌, ◌++◌, ◌∷◌, ◌^◌, [], List, ℕ, Bool, Some, true, false, length, slice_get, OnOk};
+ghost use Rattle.dns_octets.specs.Builder.{Standing, Known, before};
 ghost use Rattle.dns_label.specs.Name.{wire};
-ghost use Rattle.dns_name.specs.Spelling.{place_in, tree_spelling};
-ghost use Rattle.dns_name.specs.Remembered.{IsKnown};
+ghost use Rattle.dns_name.specs.Spelling.{place_in, is_same, tree_spelling};
 ghost use Rattle.dns_compress.specs.Tables.{added, in_order};
-ghost use Rattle.dns_compress.specs.Kept.{place_of};
-ghost use Rattle.dns_compress.specs.Listed.{listed};
-ghost use Rattle.dns_compress.specs.Waiting.{waiting, suffixes_of, octets_in, front_of};
+ghost use Rattle.dns_compress.specs.Listed.{listed, HasRoom};
+ghost use Rattle.dns_compress.specs.SuffixHash.{hash_of};
+ghost use Rattle.dns_compress.specs.SuffixIndex.{latest, IsIndex, AreHashes};
 
-use crate::octet_hasher::OctetHashing;
-use crate::suffix_keys::SuffixKeys;
+use crate::suffix_hash::{BUCKETS, bucket, hash};
 use crate::suffix_list::SuffixList;
 use dns_name::Name;
 use std::alloc::{AllocError, Global};
-use std::collections::HashMap;
 
-/// The place of each suffix, by its octets; the suffixes in the order of writing; and keys for the next ones.
+/// The suffixes in the order of writing, and for each bucket one more than the index of its last one, or 0 if it has
+/// none. A suffix leads to the one before it in its bucket. There are no buckets until room is reserved.
 #[derive(Drop)]
 pub(crate) struct SuffixMap {
-    places: HashMap<Vec<u8>, usize, OctetHashing>,
+    seed: u64,
+    heads: Vec<usize>,
     list: SuffixList,
-    keys: SuffixKeys,
-    ghost agree: { (suffix : List ℕ) → place_of places suffix ≡ place_in tree_spelling (listed list) suffix },
+    ghost index: { IsIndex list.written.items heads.items },
+    ghost hashes: { AreHashes seed list.written.items (listed list) },
     ghost order: { in_order tree_spelling (listed list) ≡ true },
 }
 
@@ -36,9 +33,9 @@ impl SuffixMap {
         ensures { listed result.list ≡ [] }
     {
         SuffixMap {
-            places: HashMap::with_hasher(alloc, OctetHashing::new(seed)),
+            seed,
+            heads: Vec::new(alloc),
             list: SuffixList::new(alloc),
-            keys: SuffixKeys::new(alloc),
         }
     }
 
@@ -46,26 +43,67 @@ impl SuffixMap {
     pub fn place(&self, suffix: &[u8]) -> Option<usize>
         ensures { result ≡ place_in tree_spelling (listed self.now.list) suffix.now }
     {
-        self.places.get(suffix).copied()
+        let hash = hash(self.seed, suffix);
+        let mut next = self.head(bucket(hash));
+        while next != 0 {
+            let index = next - 1;
+            if self.is_at(index, suffix, hash) {
+                return Some(self.list.get(index).place);
+            }
+            next = self.list.get(index).older;
+        }
+        None
     }
 
-    /// Makes keys and room for the suffixes of the name that begin with one of its first `count` labels. Fails if out
-    /// of memory.
+    /// Returns one more than the index of the last suffix of the bucket, or 0 if it has none.
+    #[inline(always)]
+    fn head(&self, bucket: usize) -> usize
+        requires { bucket < 512 }
+        ensures { result ≡ latest self.now.list.written.items bucket (length self.now.list.written.items) }
+    {
+        match self.heads.get(bucket) {
+            Some(head) => *head,
+            None => 0,
+        }
+    }
+
+    /// Returns whether the suffix at the index has these octets, whose hash this is.
+    #[inline(always)]
+    fn is_at(&self, index: usize, suffix: &[u8], hash: u64) -> bool
+        requires within { index < length self.now.list.written.items }
+        requires hash { hash ≡ hash_of self.now.seed suffix.now }
+        ensures { (standing : Standing) → slice_get (listed self.now.list) index ≡ Some standing
+            → result ≡ is_same tree_spelling standing.suffix suffix.now }
+    {
+        self.list.get(index).hash == hash && self.list.octets_at(index) == suffix
+    }
+
+    /// Makes room for the suffixes of the name that begin with one of its first `count` labels. Fails if out of
+    /// memory.
     pub fn reserve(&mut self, name: &Name<&[u8]>, count: usize) -> Result<(), AllocError>
         requires { count ≤ 255 }
-        ensures room { OnOk result (IsReady self.new (suffixes_of count name.now)) }
+        ensures room { OnOk result (IsReady self.new count name.now) }
         ensures same { listed self.new.list ≡ listed self.old.list }
     {
-        self.keys.clear();
-        let octets = push_keys(&mut self.keys, name, count)?;
-        let count = self.keys.len();
-        grow(&mut self.places, count)?;
-        self.list.reserve(count, octets)
+        if self.heads.len() != BUCKETS {
+            self.make_buckets()?;
+        }
+        self.list.reserve(count, count * name.len())
+    }
+
+    /// Makes the buckets. Fails if out of memory.
+    fn make_buckets(&mut self) -> Result<(), AllocError>
+        requires { length self.old.list.written.items ≡ 0 }
+        ensures made { OnOk result (length self.new.heads.items ≡ 512) }
+        ensures same { listed self.new.list ≡ listed self.old.list }
+    {
+        self.heads.clear();
+        self.heads.resize(BUCKETS, 0)
     }
 
     /// Adds the suffixes of the name that begin with one of its first `count` labels. There must be room.
     pub fn remember(&mut self, name: &Name<&[u8]>, count: usize, place: usize, stop: usize)
-        requires ready { IsReady self.old (suffixes_of count name.now) }
+        requires ready { IsReady self.old count name.now }
         requires order { in_order tree_spelling (listed self.old.list ++ added tree_spelling count place stop name.now) ≡ true }
         requires room { place + length (wire name.now) < 2 ^ 64 }
         ensures { listed self.new.list ≡ listed self.old.list ++ added tree_spelling count place stop name.now }
@@ -80,40 +118,31 @@ impl SuffixMap {
         self.remember(&parent, count - 1, place + 1 + label.len(), stop);
     }
 
-    /// Adds the suffix with these octets, which must be those of the last key. There must be room.
+    /// Adds the suffix with these octets. There must be room.
     fn push(&mut self, suffix: &[u8], place: usize, stop: usize)
-        requires ready { IsReady self.old (front_of (waiting self.old.keys) ++ suffix.now ∷ []) }
+        requires buckets { length self.old.heads.items ≡ 512 }
+        requires ready { HasRoom self.old.list 1 (length suffix.now) }
         requires order { in_order tree_spelling (listed self.old.list ++ record { suffix = suffix.now; place = place; stop = stop } ∷ []) ≡ true }
         ensures last { listed self.new.list ≡ listed self.old.list ++ record { suffix = suffix.now; place = place; stop = stop } ∷ [] }
-        ensures ready { IsReady self.new (front_of (waiting self.old.keys)) }
+        ensures buckets { length self.new.heads.items ≡ 512 }
+        ensures room { (count octets : ℕ) → HasRoom self.old.list (count + 1) (length suffix.now + octets) → HasRoom self.new.list count octets }
     {
-        let Some(key) = self.keys.pop() else {
-            unreachable!();
-        };
-        put(&mut self.places, key, place);
-        self.list.push(suffix, place, stop);
+        let hash = hash(self.seed, suffix);
+        let bucket = bucket(hash);
+        let older = self.heads[bucket];
+        self.list.push(suffix, place, stop, hash, older);
+        self.heads[bucket] = self.list.len();
     }
 
     /// Removes the suffixes that stop after the length. Needs no allocation.
     pub fn cut(&mut self, len: usize)
         ensures { listed self.new.list ≡ before len (listed self.old.list) }
     {
-        if self.list.first_stop() > len {
-            self.clear();
-            return;
-        }
         while self.pop_behind(len) {}
     }
 
-    /// Removes all suffixes.
-    fn clear(&mut self)
-        ensures { listed self.new.list ≡ [] }
-    {
-        self.places.clear();
-        self.list.clear();
-    }
-
     /// Removes the last suffix if it stops after the length. Returns whether it does.
+    #[inline(always)]
     fn pop_behind(&mut self, len: usize) -> bool
         ensures same { before len (listed self.new.list) ≡ before len (listed self.old.list) }
         ensures less { result ≡ true → length (listed self.new.list) < length (listed self.old.list) }
@@ -125,54 +154,8 @@ impl SuffixMap {
         if last.stop <= len {
             return false;
         }
-        take(&mut self.places, last.octets);
+        self.heads[bucket(last.hash)] = last.older;
         self.list.pop();
         true
     }
-}
-
-/// Makes keys for the suffixes of the name that begin with one of its first `count` labels, the first suffix last.
-/// Returns how many octets they have. Fails if out of memory.
-fn push_keys(keys: &mut SuffixKeys, name: &Name<&[u8]>, count: usize) -> Result<usize, AllocError>
-    requires { count ≤ 255 }
-    ensures keys { OnOk result (waiting keys.new ≡ waiting keys.old ++ suffixes_of count name.now) }
-    ensures octets { IfOk result (λ octets. octets ≡ octets_in (suffixes_of count name.now)) }
-    ensures few { IfOk result (λ octets. octets ≤ 255 * count) }
-{
-    if count == 0 {
-        return Ok(0);
-    }
-    let Some((_, parent)) = name.split_first() else {
-        return Ok(0);
-    };
-    let octets = push_keys(keys, &parent, count - 1)?;
-    keys.push(name.as_slice())?;
-    Ok(octets + name.len())
-}
-
-/// Reserves room for `count` suffixes more. Fails if out of memory.
-fn grow(places: &mut HashMap<Vec<u8>, usize, OctetHashing>, count: usize) -> Result<(), AllocError>
-    ensures room { OnOk result (count ≤ spare places.new) }
-    ensures same { (q : List ℕ) → place_of places.new q ≡ place_of places.old q }
-{
-    places.reserve(count)
-}
-
-/// Sets the place of the suffix. There must be room.
-fn put(places: &mut HashMap<Vec<u8>, usize, OctetHashing>, suffix: Vec<u8>, place: usize)
-    requires { 0 < spare places.old }
-    ensures place { (q : List ℕ) → place_of places.new q ≡ cond (pointwise nat_eq suffix.items q) (Some place) (place_of places.old q) }
-    ensures spare { spare places.old ≤ spare places.new + 1 }
-{
-    match places.insert(suffix, place) {
-        Ok(_) => {}
-        Err(_) => unreachable!(),
-    }
-}
-
-/// Removes the suffix.
-fn take(places: &mut HashMap<Vec<u8>, usize, OctetHashing>, suffix: &[u8])
-    ensures { (q : List ℕ) → place_of places.new q ≡ cond (pointwise nat_eq suffix.now q) None (place_of places.old q) }
-{
-    places.remove(suffix);
 }

@@ -1,53 +1,41 @@
-use Rattle.std.proofs.Common.{◌≡◌, ◌∙◌, ◌∷◌, [], ap, sym, subst, Some, true, ℕ, List, arith, length, length-append}
-use Rattle.std.specs.Prelude.{nat_eq, cond, Option}
-use Rattle.std.specs.Cmp.Lexicographic.{pointwise}
+use Rattle.std.proofs.Common.{◌≡◌, ◌++◌, ◌∷◌, [], suc, ap, sym, subst, Some, true, ℕ, List, arith, length, length-append, set}
+use Rattle.std.specs.Prelude.{slice_get}
+use Rattle.std.proofs.lemmas.Option.{slice_get_read}
 use Rattle.dns_octets.specs.Builder.{Standing, Known}
-use Rattle.dns_name.specs.Spelling.{tree_spelling, place_in}
+use Rattle.dns_name.specs.Spelling.{tree_spelling}
+use Rattle.dns_compress.specs.declared.written.Written.{Written}
 use Rattle.dns_compress.specs.Tables.{in_order}
-use Rattle.dns_compress.specs.Kept.{place_of}
 use Rattle.dns_compress.specs.Listed.{listed}
-use Rattle.dns_compress.specs.Waiting.{waiting, front_of, octets_in}
-use Rattle.dns_compress.proofs.InOrder.{in_order-pop}
-use Rattle.dns_compress.proofs.Kept.{place_in-push}
-use Rattle.dns_compress.proofs.Waiting.{octets_in-append, same_front, same_last}
+use Rattle.dns_compress.specs.SuffixIndex.{IsIndex, AreHashes}
+use Rattle.dns_compress.proofs.Index.{index_push, hashes_push}
 use Rattle.dns_compress.proofs.suffix_map.SuffixMap.push.Goals as goal
-
-pub put-requires : goal.put-requires
-put-requires c =
-    let front : List (List ℕ) = front_of (waiting c.args.self.now.keys) in
-    omega (arith, c.requires.ready.places, length-append front (c.args.suffix.now ∷ []))
-
-pub push-requires : goal.push-requires
-push-requires c =
-    let front : List (List ℕ) = front_of (waiting c.args.self.now.keys) in (
-      omega (arith, c.requires.ready.list.0, length-append front (c.args.suffix.now ∷ [])),
-      omega (arith, c.requires.ready.list.1, octets_in-append front c.args.suffix.now),
-    )
 
 pub invariant_of-self : goal.invariant_of-self
 invariant_of-self c =
+    let heads : List ℕ = c.args.self.now.heads.items in
+    let written : List Written = c.args.self.now.list.written.items in
     let known : Known = listed c.args.self.now.list in
-    let front : List (List ℕ) = front_of (waiting c.args.self.now.keys) in
-    let other : Standing = record { suffix = c.args.suffix.now; place = c.args.place; stop = c.args.stop } in
-    let key : c.in-Some.key.items ≡ c.args.suffix.now =
-    same_last (waiting c.pop.new.self) front c.in-Some.key.items c.args.suffix.now (sym c.in-Some.ensures.some ∙ c.requires.ready.keys) in
+    let one : Written = record {
+      start = length c.args.self.now.list.octets.items;
+      len = length c.args.suffix.now;
+      place = c.args.place;
+      stop = c.args.stop;
+      hash = c.hash-hash.result;
+      older = c.index-older.result.now;
+    } in
+    let standing : Standing = record { suffix = c.args.suffix.now; place = c.args.place; stop = c.args.stop } in
+    let long : c.len.result ≡ suc (length written) =
+    omega (arith, c.len.ensures, ap (length {A = Written}) c.push.ensures.written, length-append written (one ∷ [])) in
+    let older : slice_get heads c.bucket-bucket.result ≡ Some one.older =
+    slice_get_read heads 512 c.bucket-bucket.result one.older (sym c.requires.buckets) c.bucket-bucket.ensures.within c.index-older.ensures in
     record {
-      agree = λ q. c.put.ensures.place q
-          ∙ ap (λ l. cond (pointwise nat_eq l q) (Some c.args.place) (place_of c.args.self.now.places q)) key
-          ∙ ap (λ (o : Option ℕ). cond (pointwise nat_eq other.suffix q) (Some c.args.place) o) (c.args.self.now.agree q)
-          ∙ place_in-push known other q (in_order-pop tree_spelling known other c.requires.order).1
-          ∙ ap (λ (l : Known). place_in tree_spelling l q) (sym c.push.ensures.last);
+      index = subst (λ (l : List Written). IsIndex l (set heads c.bucket-bucket.result c.len.result)) (sym c.push.ensures.written)
+          (subst (λ n. IsIndex (written ++ one ∷ []) (set heads c.bucket-bucket.result n)) (sym long)
+          (subst (λ n. IsIndex (written ++ one ∷ []) (set heads n (suc (length written)))) (sym c.bucket-bucket.ensures.is)
+          (index_push written heads one c.args.self.now.index c.requires.buckets
+          (subst (λ n. slice_get heads n ≡ Some one.older) c.bucket-bucket.ensures.is older))));
+      hashes = subst (λ (l : List Written). AreHashes c.args.self.now.seed l (listed c.push.new.self)) (sym c.push.ensures.written)
+          (subst (AreHashes c.args.self.now.seed (written ++ one ∷ [])) (sym c.push.ensures.last)
+          (hashes_push c.args.self.now.seed written known one standing c.args.self.now.hashes c.hash-hash.ensures));
       order = subst (λ (l : Known). in_order tree_spelling l ≡ true) (sym c.push.ensures.last) c.requires.order;
-    }
-
-pub returns-clause-ready : goal.returns-clause-ready
-returns-clause-ready c =
-    let front : List (List ℕ) = front_of (waiting c.args.self.now.keys) in
-    record {
-      keys = same_front (waiting c.pop.new.self) front c.in-Some.key.items c.args.suffix.now (sym c.in-Some.ensures.some ∙ c.requires.ready.keys);
-      places = omega (arith, c.requires.ready.places, c.put.ensures.spare, length-append front (c.args.suffix.now ∷ []));
-      list = c.push.ensures.room (length front) (octets_in front) (
-        omega (arith, c.requires.ready.list.0, length-append front (c.args.suffix.now ∷ [])),
-        omega (arith, c.requires.ready.list.1, octets_in-append front c.args.suffix.now),
-      );
     }
