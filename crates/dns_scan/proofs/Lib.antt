@@ -9,6 +9,7 @@ pub mod Decoded
 pub mod Encodings
 pub mod Tokens
 pub mod Numerals
+mod DigitNumbers
 pub mod Entries
 pub mod UnknownWords
 pub mod SymbolsRead

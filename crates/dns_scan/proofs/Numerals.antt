@@ -15,18 +15,6 @@ spelled_ok : {E : Type 0} (limit : ℕ) (ds : List ℕ) (r : Result ℕ E) → l
 spelled_ok limit ds (Ok x) digits exact = rw number_spelled-digits (grind (arith, nat_tests))
 spelled_ok limit ds (Err e) digits exact = rw number_spelled-digits (grind (arith, nat_tests))
 
-pub spelled_8 : {E : Type 0} (ds : List ℕ) (r : Result ℕ E) → ParsesUnsigned 8 10 ds r → list_all is_ascii_digit ds ≡ true
-    → result_ok r ≡ number_spelled (2 ^ 8) ds
-spelled_8 ds r parsed digits = spelled_ok (2 ^ 8) ds r digits (parse_digits digits_model 8 ds r parsed digits)
-
-pub spelled_16 : {E : Type 0} (ds : List ℕ) (r : Result ℕ E) → ParsesUnsigned 16 10 ds r → list_all is_ascii_digit ds ≡ true
-    → result_ok r ≡ number_spelled (2 ^ 16) ds
-spelled_16 ds r parsed digits = spelled_ok (2 ^ 16) ds r digits (parse_digits digits_model 16 ds r parsed digits)
-
-pub spelled_32 : {E : Type 0} (ds : List ℕ) (r : Result ℕ E) → ParsesUnsigned 32 10 ds r → list_all is_ascii_digit ds ≡ true
-    → result_ok r ≡ number_spelled (2 ^ 32) ds
-spelled_32 ds r parsed digits = spelled_ok (2 ^ 32) ds r digits (parse_digits digits_model 32 ds r parsed digits)
-
 pub spelled_64 : {E : Type 0} (ds : List ℕ) (r : Result ℕ E) → ParsesUnsigned 64 10 ds r → list_all is_ascii_digit ds ≡ true
     → result_ok r ≡ number_spelled (2 ^ 64) ds
 spelled_64 ds r parsed digits = spelled_ok (2 ^ 64) ds r digits (parse_digits digits_model 64 ds r parsed digits)
@@ -35,4 +23,4 @@ pub spelled_128 : {E : Type 0} (ds : List ℕ) (r : Result ℕ E) → ParsesUnsi
     → result_ok r ≡ number_spelled (2 ^ 128) ds
 spelled_128 ds r parsed digits = spelled_ok (2 ^ 128) ds r digits (parse_digits digits_model 128 ds r parsed digits)
 
-pub ruleset spelled_rules = (number_spelled-other, spelled_8, spelled_16, spelled_32, spelled_64, spelled_128)
+pub ruleset spelled_rules = (number_spelled-other, spelled_64, spelled_128)

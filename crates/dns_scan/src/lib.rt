@@ -4,6 +4,7 @@
 #![tactic(auto)]
 
 mod char_str;
+mod digits;
 mod encoding;
 pub mod laws;
 mod scan;
@@ -13,6 +14,7 @@ pub use char_str::{
     CharStr, CharStrBuilder, CharStrError, CharStrIter, DisplayQuoted, DisplayUnquoted,
     FromStrError, PresentationError,
 };
+pub use digits::number_of;
 pub use encoding::{DecodeError, DecodedOctet, DisplayEncoded, base16, base32, base64};
 pub use scan::{
     IterScanner, Scan, Scanner, ScannerError, StrError, scan_unknown_octets, scan_without_marker,

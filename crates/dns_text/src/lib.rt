@@ -29,7 +29,7 @@ pub use dns_scan::{
     CharStr, CharStrBuilder, CharStrError, CharStrIter, ConvertSymbols, DecodeError, DecodedOctet,
     DisplayEncoded, DisplayQuoted, DisplayUnquoted, EntrySymbol, FromStrError, IterScanner,
     PresentationError, Scan, Scanner, ScannerError, StrError, base16, base32, base64,
-    scan_unknown_octets, scan_without_marker,
+    number_of, scan_unknown_octets, scan_without_marker,
 };
 pub use formatter::Formatter;
 pub use layout::DisplayKind;

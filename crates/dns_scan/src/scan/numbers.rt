@@ -5,6 +5,7 @@ ghost use Rattle.std.specs.List.{list_all};
 ghost use Rattle.dns_name.specs.Mnemonic.{number_spelled};
 ghost use Rattle.dns_scan.specs.Scans.{ScansWord};
 
+use crate::digits::number_of;
 use crate::{Scan, Scanner};
 
 impl<S: Scanner> Scan<S> for u8 {
@@ -48,36 +49,40 @@ impl<S: Scanner> Scan<S> for u128 {
 }
 
 /// Returns the number below 2^8 that these digits spell, if they spell one.
-#[tactic(auto, using(crate::proofs::Numerals::spelled_rules))]
+#[tactic(auto, using(crate::proofs::DigitNumbers::number_below, crate::proofs::DigitNumbers::number_in_none))]
 fn spelled_u8(text: &str) -> Option<u8>
     ensures { result ≡ number_spelled (2 ^ 8) text.now }
 {
-    if !are_digits(text) {
+    let Some(number) = number_of(text.as_bytes()) else {
         return None;
+    };
+    if number < 256 {
+        Some(number as u8)
+    } else {
+        None
     }
-    text.parse().ok()
 }
 
 /// Returns the number below 2^16 that these digits spell, if they spell one.
-#[tactic(auto, using(crate::proofs::Numerals::spelled_rules))]
+#[tactic(auto, using(crate::proofs::DigitNumbers::number_below, crate::proofs::DigitNumbers::number_in_none))]
 fn spelled_u16(text: &str) -> Option<u16>
     ensures { result ≡ number_spelled (2 ^ 16) text.now }
 {
-    if !are_digits(text) {
+    let Some(number) = number_of(text.as_bytes()) else {
         return None;
+    };
+    if number < 65536 {
+        Some(number as u16)
+    } else {
+        None
     }
-    text.parse().ok()
 }
 
 /// Returns the number below 2^32 that these digits spell, if they spell one.
-#[tactic(auto, using(crate::proofs::Numerals::spelled_rules))]
 pub(crate) fn spelled_u32(text: &str) -> Option<u32>
     ensures { result ≡ number_spelled (2 ^ 32) text.now }
 {
-    if !are_digits(text) {
-        return None;
-    }
-    text.parse().ok()
+    number_of(text.as_bytes())
 }
 
 /// Returns the number below 2^64 that these digits spell, if they spell one.

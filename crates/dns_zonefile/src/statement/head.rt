@@ -10,7 +10,7 @@ ghost use Rattle.dns_zonefile.specs.HeadWord.{Heads, IsHeadWord};
 use super::frequent_word::frequent_word;
 use dns_entry_scanner::EntryScanner;
 use dns_name::{Class, Rtype, Ttl};
-use dns_text::{Scanner, ScannerError};
+use dns_text::{Scanner, ScannerError, number_of};
 
 /// TTL, class and type of a record, as far as its row states them.
 #[derive(Clone, Copy)]
@@ -212,29 +212,4 @@ fn are_digits(octets: &[u8]) -> bool
     ensures { result ≡ list_all is_ascii_digit octets.now }
 {
     octets.iter().all(u8::is_ascii_digit)
-}
-
-/// Returns the number of 32 bits that digits spell. Each octet is looked at once.
-#[inline(always)]
-#[tactic(auto, using(crate::proofs::Numbers::number_other, crate::proofs::Numbers::number_large, crate::proofs::Numbers::number_more, crate::proofs::Numbers::number_none, crate::proofs::Numbers::number_whole))]
-fn number_of(digits: &[u8]) -> Option<u32>
-    ensures { result ≡ number_spelled (2 ^ 32) digits.now }
-{
-    let mut number: u64 = 0;
-    let mut place = 0;
-    while place < digits.len() {
-        let digit = digits[place];
-        if !digit.is_ascii_digit() {
-            return None;
-        }
-        number = 10 * number + u64::from(digit - b'0');
-        if number > 0xFFFF_FFFF {
-            return None;
-        }
-        place += 1;
-    }
-    if digits.is_empty() {
-        return None;
-    }
-    Some(number as u32)
 }

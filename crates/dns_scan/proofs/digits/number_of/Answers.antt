@@ -1,6 +1,6 @@
 use Rattle.std.proofs.Common.{◌+◌, ◌^◌, arith, sym, ◌∙◌}
-use Rattle.dns_zonefile.proofs.Numbers.{number_large, number_more, digits_more}
-use Rattle.dns_zonefile.proofs.statement.head.number_of.Goals as goal
+use Rattle.dns_scan.proofs.DigitNumbers.{number_large, number_more, digits_more}
+use Rattle.dns_scan.proofs.digits.number_of.Goals as goal
 
 pub loop-place-preserved : goal.loop-place-preserved
 loop-place-preserved c =

@@ -1,4 +1,4 @@
--- Numbers, read digit by digit.
+-- Numbers, read digit by digit, and those below a limit.
 use Rattle.std.proofs.Common.{◌≡◌, ◌^◌, ◌<◌, ◌≤◌, ◌+◌, ◌*◌, ◌-◌, ℕ, true, false, nat_lt, List, [], length, take, get_or, None, Some, cond, refl, sym, ◌∙◌, arith, rules}
 use Rattle.std.specs.Char.{is_ascii_digit, digit_value}
 use Rattle.std.specs.List.{list_all}
@@ -10,8 +10,8 @@ use Rattle.std.proofs.lemmas.List.{take_all}
 use Rattle.std.proofs.lemmas.List.Folds.{list_all_at, list_all_more}
 use Rattle.std.proofs.lemmas.Str.{digit_value_digit}
 use Rattle.std.proofs.lemmas.Str.Parse.{digits_value-take-le}
-use Rattle.dns_values.specs.Mnemonic.{number_spelled}
-use Rattle.dns_values.proofs.Words.{number_spelled-other, number_spelled-digits}
+use Rattle.dns_name.specs.Mnemonic.{number_spelled}
+use Rattle.dns_name.proofs.Words.{number_spelled-other, number_spelled-digits}
 
 -- an octet that is no digit
 pub number_other : (limit : ℕ) (text : List ℕ) (place : ℕ) → place < length text → is_ascii_digit (get_or text place 0) ≡ false
@@ -59,3 +59,18 @@ number_whole limit text place number end some digits is below =
     let all : list_all is_ascii_digit text ≡ true = rw whole at digits in
     let value : number ≡ digits_value 10 text = rw whole at is in
     rw (number_spelled-digits limit text all) (grind (arith, nat_tests))
+
+-- a number of 32 bits below a limit, and one that is not
+pub number_below : (limit : ℕ) (text : List ℕ) (number : ℕ) → number_spelled (2 ^ 32) text ≡ Some number → number < limit
+    → number_spelled limit text ≡ Some number
+unfolding number_spelled
+number_below limit text number is below = grind (arith, nat_tests)
+
+pub number_past : (limit : ℕ) (text : List ℕ) (number : ℕ) → number_spelled (2 ^ 32) text ≡ Some number → limit ≤ number
+    → number_spelled limit text ≡ None
+unfolding number_spelled
+number_past limit text number is past = grind (arith, nat_tests)
+
+pub number_in_none : (limit : ℕ) (text : List ℕ) → limit ≤ 2 ^ 32 → number_spelled (2 ^ 32) text ≡ None → number_spelled limit text ≡ None
+unfolding number_spelled
+number_in_none limit text small none = grind (arith, nat_tests)
