@@ -1,4 +1,6 @@
 pub mod PlainOctets
+pub mod Lines
+pub mod MarkedLines
 pub mod TokenRuns
 pub mod Steps
 pub mod Rows

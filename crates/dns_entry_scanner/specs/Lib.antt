@@ -1,6 +1,8 @@
 pub mod Octets
 pub mod Head
 pub mod TokenSpan
+pub mod Lines
+pub mod LineMark
 pub mod TokenEnd
 pub mod Step
 pub mod RowReader

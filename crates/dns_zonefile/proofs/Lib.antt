@@ -17,6 +17,3 @@ mod ComposedRows
 pub mod RecordFronts
 mod LastOwners
 mod FrequentWords
-mod Numbers
-mod Lines
-pub mod MarkedLines

@@ -7,7 +7,8 @@ use Rattle.dns_entry_scanner.specs.declared.row.RowFound.{RowFound}
 use Rattle.dns_entry_scanner.specs.declared.row.RowFound.TheVariants.{Row as Found}
 use Rattle.dns_entry_scanner.specs.declared.token_span.TokenSpan.{TokenSpan}
 use Rattle.dns_zonefile.specs.Entry.{Context}
-use Rattle.dns_zonefile.specs.PassedOver.{PassesOver, behind_line}
+use Rattle.dns_zonefile.specs.PassedOver.{PassesOver}
+use Rattle.dns_entry_scanner.specs.Lines.{behind_line}
 use Rattle.dns_zonefile.specs.PassedOver.IsPassed.{row, line}
 use Rattle.dns_zonefile.specs.PassedOver.PassesOver.{over, ended}
 

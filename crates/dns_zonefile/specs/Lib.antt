@@ -6,7 +6,6 @@ pub mod Directive
 pub mod HeadWord
 pub mod Error
 pub mod Reader
-pub mod LineMark
 pub mod ReaderSeen
 pub mod RowRead
 pub mod Composed

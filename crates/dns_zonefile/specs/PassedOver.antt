@@ -1,14 +1,10 @@
 -- What a reader passes over to go on after a row that was refused (RFC 1035 5.1).
-use Rattle.std.specs.Prelude.{◌≡◌, ◌==◌, ◌+◌, ℕ, false, true, if◌then◌else◌, List, [], ◌∷◌}
+use Rattle.std.specs.Prelude.{◌≡◌, ◌+◌, ℕ, false, true, List}
 use Rattle.dns_scan.specs.Token.{Token}
 use Rattle.dns_text.specs.Tokens.{Row, is_end}
+use Rattle.dns_entry_scanner.specs.Lines.{behind_line}
 use Rattle.dns_entry_scanner.specs.RowFound.{NoRow}
 use Rattle.dns_zonefile.specs.Reader.{Reader, left_of}
-
--- what is behind the text's first line: after its line feed (10), or at the end
-abbrev pub behind_line : List ℕ → List ℕ
-behind_line [] = []
-behind_line (octet ∷ text) = if octet == 10 then text else behind_line text
 
 -- this is left behind the text's first row or, where it begins with none, behind its first line
 pub data IsPassed (text left : List ℕ) : Type 0 where

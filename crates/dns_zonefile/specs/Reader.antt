@@ -1,5 +1,5 @@
 -- Readers of zone files, and their results (RFC 1035 5.1).
-use Rattle.std.specs.Prelude.{◌≡◌, ◌≢◌, ◌+◌, ◌==◌, ℕ, suc, true, false, if◌then◌else◌, List, [], ◌∷◌, ◌++◌, Option, Some, None, Result, Ok, Err, take, drop, length}
+use Rattle.std.specs.Prelude.{◌≡◌, ◌≢◌, ◌+◌, ℕ, true, false, List, [], ◌∷◌, ◌++◌, Option, Some, None, Result, Ok, Err, drop, length}
 use Rattle.std.specs.List.{AllByRecursion}
 use Rattle.dns_text.specs.Rows.{BeginsWithRows, TokenRow}
 use Rattle.dns_text.specs.Tokens.{is_end}
@@ -56,15 +56,6 @@ pub data Gives (old : Reader) : Result (Option Entry) EntryError → Reader → 
 -- a reader at the start of a text, without an origin and a class
 abbrev pub start_of_text : List ℕ → Reader
 start_of_text text = record { text = text; place = 0; context = at_start None None; count = 0 }
-
--- the number of the line after these octets, from 1: each line feed (10) ends a line
-abbrev pub line_behind : List ℕ → ℕ
-line_behind [] = 1
-line_behind (octet ∷ before) = if octet == 10 then suc (line_behind before) else line_behind before
-
--- the number of the line of a place in a text
-abbrev pub line_at : List ℕ → ℕ → ℕ
-line_at text place = line_behind (take place text)
 
 -- A reader that is called repeatedly returns these entries, and is then the other reader.
 pub data GivesEach : Reader → List Entry → Reader → Type 0 where

@@ -24,19 +24,17 @@ mod entry_reader;
 mod error;
 mod last_owner;
 pub mod laws;
-mod line_mark;
 mod statement;
 mod zonefile;
 
 pub use dns_entry_scanner::{
-    BrokenRow, EntryError, EntryScanner, InlineName, RowFound, RowReader, RowScanner, ScannedName,
-    ScannedString, TextName, TokenSpan, WireScanner, absolute, line_end, read_row, scan_name,
-    to_inline_name,
+    BrokenRow, EntryError, EntryScanner, InlineName, LineMark, RowFound, RowReader, RowScanner,
+    ScannedName, ScannedString, TextName, TokenSpan, WireScanner, absolute, line_end, next_line,
+    read_row, scan_name, to_inline_name,
 };
 pub use dns_scan_data::scan_unknown_octets_into;
 pub use entry::{ComposedEntry, Entry, IncludedFile, ScannedRecord, ScannedRecordData};
 pub use entry_reader::EntryReader;
 pub use error::Error;
-pub use line_mark::{LineMark, next_line};
 pub use statement::{Stated, Statement, scan_statement};
 pub use zonefile::Zonefile;

@@ -1,6 +1,6 @@
 //! Readers of zone files.
 ghost use Rattle.std.specs.Prelude.{◌≡◌, ◌≤◌, ◌++◌, [], Some, None, length, option_copied, vec_capacity, OnOk, OnErr, IfOk};
-ghost use Rattle.dns_zonefile.specs.LineMark.{MarksLine};
+ghost use Rattle.dns_entry_scanner.specs.LineMark.{MarksLine};
 
 mod pass_over;
 mod read;

@@ -21,8 +21,9 @@ use Rattle.dns_zonefile.specs.declared.entry.ComposedEntry.TheVariants as compos
 use Rattle.dns_zonefile.specs.declared.entry.IncludedFile.{IncludedFile}
 use Rattle.dns_zonefile.specs.Entry.{Entry}
 use Rattle.dns_zonefile.specs.Entry.Entry.{Include, Resource}
-use Rattle.dns_zonefile.specs.PassedOver.{IsPassed, PassesOver, behind_line}
-use Rattle.dns_zonefile.specs.Reader.{Gives, GoesOver, IsRefusedAt, Reader, left_of, line_at}
+use Rattle.dns_zonefile.specs.PassedOver.{IsPassed, PassesOver}
+use Rattle.dns_entry_scanner.specs.Lines.{behind_line, line_at}
+use Rattle.dns_zonefile.specs.Reader.{Gives, GoesOver, IsRefusedAt, Reader, left_of}
 use Rattle.dns_zonefile.proofs.RowFronts.{all_rows}
 use Rattle.zone_records.specs.Record.{Record}
 use Rattle.zone.specs.Reading.{BreaksRule, IsCheckFault, MayStandUnder}

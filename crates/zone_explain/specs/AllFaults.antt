@@ -8,7 +8,8 @@ use Rattle.dns_entry_scanner.specs.declared.entry_error.EntryError.{EntryError}
 use Rattle.dns_zonefile.specs.Entry.{Entry}
 use Rattle.dns_zonefile.specs.Entry.Entry.{Include, Resource}
 use Rattle.dns_zonefile.specs.PassedOver.{PassesOver}
-use Rattle.dns_zonefile.specs.Reader.{Gives, IsRefusedAt, Reader, left_of, line_at}
+use Rattle.dns_zonefile.specs.Reader.{Gives, IsRefusedAt, Reader, left_of}
+use Rattle.dns_entry_scanner.specs.Lines.{line_at}
 use Rattle.zone_records.specs.Record.{Record}
 use Rattle.zone_records.specs.Zone.{soa_type}
 use Rattle.zone.specs.Reading.{BreaksRule, MayStandUnder, reader_at}

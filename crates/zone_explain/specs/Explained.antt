@@ -3,7 +3,7 @@ use Rattle.std.specs.Prelude.{◌≡◌, ◌≢◌, ℕ, suc, Bool, true, false,
 use Rattle.dns_scan.specs.Token.{Token}
 use Rattle.dns_text.specs.Rows.{BeginsWithRows, TokenRow}
 use Rattle.dns_text.specs.Tokens.{is_gap}
-use Rattle.dns_zonefile.specs.Reader.{line_at}
+use Rattle.dns_entry_scanner.specs.Lines.{line_at}
 use Rattle.zone_records.specs.Record.{Record}
 use Rattle.zone.specs.ZoneText.{IsZoneFault, IsZoneText}
 use Rattle.zone.specs.declared.zone_error.ZoneError.{ZoneError}

@@ -1,7 +1,7 @@
 -- The walk over each fault of a zone's text. Only contracts inside the crate name it.
 use Rattle.std.specs.Prelude.{◌≡◌, ◌<◌, ℕ, List, [], ◌∷◌, Option, Some, None, length, IfSome, ⊤}
 use Rattle.dns_label.specs.Name.{IsName}
-use Rattle.dns_zonefile.specs.LineMark.{MarksLine}
+use Rattle.dns_entry_scanner.specs.LineMark.{MarksLine}
 use Rattle.dns_zonefile.specs.Reader.{Reader, left_of}
 use Rattle.dns_zonefile.specs.ReaderSeen.{reader_of, refused_in}
 use Rattle.zone_explain.specs.AllFaults.{AreFaults, Front}

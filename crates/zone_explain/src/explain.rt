@@ -1,7 +1,7 @@
 //! Why a zone's text is refused.
 ghost use Rattle.std.specs.Prelude.{◌≡◌, ◌≢◌, ℕ, List, None, true, false, drop, option_copied, IfOk, IfNone};
-ghost use Rattle.dns_zonefile.specs.LineMark.{MarksLine};
-ghost use Rattle.dns_zonefile.specs.Reader.{line_at};
+ghost use Rattle.dns_entry_scanner.specs.LineMark.{MarksLine};
+ghost use Rattle.dns_entry_scanner.specs.Lines.{line_at};
 ghost use Rattle.zone.specs.ZoneText.{IsZoneFault};
 ghost use Rattle.zone_explain.specs.EntryRow.{IsFaultRow, breaks_entry, number_of};
 ghost use Rattle.zone_explain.specs.Explained.{IsExplained, IsRulePlace, behind_blanks};

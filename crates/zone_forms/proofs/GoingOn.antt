@@ -8,9 +8,9 @@ use Rattle.dns_entry_scanner.specs.EntryError.{is_memory}
 use Rattle.dns_entry_scanner.specs.RowFound.{NoRow}
 use Rattle.dns_entry_scanner.specs.declared.entry_error.EntryError.{EntryError}
 use Rattle.dns_zonefile.proofs.Going.{begins-on}
-use Rattle.dns_zonefile.proofs.MarkedLines.{lines-few}
+use Rattle.dns_entry_scanner.proofs.MarkedLines.{lines-few}
 use Rattle.dns_zonefile.specs.Entry.{Context, Entry}
-use Rattle.dns_zonefile.specs.Reader.{line_at, line_behind}
+use Rattle.dns_entry_scanner.specs.Lines.{line_at, line_behind}
 use Rattle.zone_general.proofs.FoundRows.{found_row}
 use Rattle.zone_forms.proofs.GoneTexts.{Told, bare_longer}
 use Rattle.zone_general.proofs.RewrittenParts.{row_begins}

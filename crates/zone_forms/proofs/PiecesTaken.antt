@@ -7,9 +7,9 @@ use Rattle.dns_entry_scanner.specs.declared.row.RowFound.{RowFound}
 use Rattle.dns_entry_scanner.specs.declared.row.RowFound.TheVariants.{Broken, End}
 use Rattle.dns_entry_scanner.specs.declared.row.RowFound.TheVariants.{Row as Found}
 use Rattle.dns_entry_scanner.specs.declared.token_span.TokenSpan.{TokenSpan}
-use Rattle.dns_zonefile.proofs.MarkedLines.{lines-few}
+use Rattle.dns_entry_scanner.proofs.MarkedLines.{lines-few}
 use Rattle.dns_zonefile.specs.Entry.{Context, Entry}
-use Rattle.dns_zonefile.specs.Reader.{line_at, line_behind}
+use Rattle.dns_entry_scanner.specs.Lines.{line_at, line_behind}
 use Rattle.zone_forms.proofs.GoingOn.{counted_line, fails_broken, gone_end, gone_then}
 use Rattle.zone_forms.proofs.GoneTexts.{Told, general_gone, presented_gone}
 use Rattle.zone_forms.specs.Pieces.{GoesOn, HasRewritten, HasTaken, IsInForm, Refuses, goes_in}

@@ -3,7 +3,7 @@ use Rattle.std.specs.Prelude.{◌≡◌, ◌≢◌, ◌+◌, ◌^◌, ◌<◌, �
 use Rattle.dns_text.specs.Rows.{TokenRow}
 use Rattle.dns_text.specs.Tokens.{is_end}
 use Rattle.dns_zonefile.specs.Entry.{Context, Entry}
-use Rattle.dns_zonefile.specs.Reader.{line_behind}
+use Rattle.dns_entry_scanner.specs.Lines.{line_behind}
 use Rattle.zone_general.specs.LongerEntries.{IsLongerEntry}
 use Rattle.zone_general.specs.Rewritten.{AreRow}
 use Rattle.zone_forms.specs.Refused.{FailsInLine}

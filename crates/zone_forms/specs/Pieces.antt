@@ -4,7 +4,7 @@ use Rattle.dns_text.specs.Layout.{layout_of}
 use Rattle.dns_text.specs.Rows.{TokenRow}
 use Rattle.dns_entry_scanner.specs.RowFound.{NoRow}
 use Rattle.dns_zonefile.specs.Entry.{Context, Entry}
-use Rattle.dns_zonefile.specs.Reader.{line_behind}
+use Rattle.dns_entry_scanner.specs.Lines.{line_behind}
 use Rattle.zone_forms.specs.Presented.{GoesPresented, IsGeneralOf, IsPresentedOf}
 use Rattle.zone_forms.specs.Refused.{FailsInLine}
 use Rattle.zone_general.specs.Rewritten.{GoesGeneral}

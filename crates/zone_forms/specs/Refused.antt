@@ -2,7 +2,7 @@
 use Rattle.std.specs.Prelude.{◌≡◌, ◌≢◌, ◌++◌, ◌∷◌, [], ℕ, List}
 use Rattle.dns_text.specs.Rows.{BeginsWithRows, BreaksAfter, TokenRow}
 use Rattle.dns_zonefile.specs.Entry.{Context, Entry}
-use Rattle.dns_zonefile.specs.Reader.{line_behind}
+use Rattle.dns_entry_scanner.specs.Lines.{line_behind}
 use Rattle.zone_general.specs.LongerEntries.{AreLongerEntries, IsLongerEntry}
 
 -- After some entries the text fails, in this line: what follows is no row, or a row with tokens that is no entry.

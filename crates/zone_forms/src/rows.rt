@@ -4,7 +4,7 @@ ghost use Rattle.dns_entry_scanner.specs.EntryError.{is_memory};
 ghost use Rattle.dns_entry_scanner.specs.RowFound.{NoRow};
 ghost use Rattle.dns_text.specs.Tokens.{is_end};
 ghost use Rattle.dns_zonefile.specs.Entry as spec;
-ghost use Rattle.dns_zonefile.specs.Reader.{line_at};
+ghost use Rattle.dns_entry_scanner.specs.Lines.{line_at};
 ghost use Rattle.zone_general.specs.LongerEntries.{IsLongerEntry};
 ghost use Rattle.zone_forms.specs.Going.{FailsBehind, GoesUpTo, RowGoes};
 ghost use Rattle.zone_general.specs.Seen.{IsFound, context_in, octets_in, row_in, tokens_in};

@@ -6,7 +6,7 @@ use Rattle.dns_text.specs.Rows.{TokenRow}
 use Rattle.dns_text.specs.Tokens.{is_end}
 use Rattle.dns_entry_scanner.specs.RowFound.{NoRow}
 use Rattle.dns_zonefile.specs.Entry.{Context}
-use Rattle.dns_zonefile.specs.PassedOver.{behind_line}
+use Rattle.dns_entry_scanner.specs.Lines.{behind_line}
 use Rattle.dns_scan.specs.Token.{Token}
 use Rattle.dns_entry_scanner.specs.NameInText.{SpellsUnder}
 use Rattle.zone_general.proofs.FoundRows.{found_row}

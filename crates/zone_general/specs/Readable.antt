@@ -5,7 +5,7 @@ use Rattle.dns_text.specs.Tokens.{is_end}
 use Rattle.dns_entry_scanner.specs.NameInText.{SpellsUnder}
 use Rattle.dns_entry_scanner.specs.RowFound.{NoRow}
 use Rattle.dns_zonefile.specs.Entry.{Context, Entry}
-use Rattle.dns_zonefile.specs.PassedOver.{behind_line}
+use Rattle.dns_entry_scanner.specs.Lines.{behind_line}
 use Rattle.zone_general.specs.LongerEntries.{IsLongerEntry}
 use Rattle.zone_general.specs.LongerRow.{IsGeneralRow}
 use Rattle.zone_general.specs.Rewritten.{AreRow, GoesGeneral, IsWrittenAs}

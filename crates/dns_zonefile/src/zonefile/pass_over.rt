@@ -5,8 +5,7 @@ ghost use Rattle.dns_zonefile.specs.ReaderSeen.{reader_of, refused_in};
 ghost use Rattle.dns_zonefile.specs.declared.error.Error.{Error as ErrorOf};
 
 use super::Zonefile;
-use crate::line_mark::next_line;
-use dns_entry_scanner::{RowFound, read_row};
+use dns_entry_scanner::{RowFound, next_line, read_row};
 use std::alloc::AllocError;
 
 impl Zonefile {

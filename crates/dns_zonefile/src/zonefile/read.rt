@@ -8,7 +8,8 @@ ghost use Rattle.dns_entry_scanner.specs.declared.entry_error.EntryError.{EntryE
 ghost use Rattle.dns_zonefile.specs.Composed.{HandsOn, with_reason};
 ghost use Rattle.dns_zonefile.specs.Entry as spec;
 ghost use Rattle.dns_zonefile.specs.Error.{line_of as error_line};
-ghost use Rattle.dns_zonefile.specs.Reader.{Gives, IsRefusedAt, line_at};
+ghost use Rattle.dns_zonefile.specs.Reader.{Gives, IsRefusedAt};
+ghost use Rattle.dns_entry_scanner.specs.Lines.{line_at};
 ghost use Rattle.dns_zonefile.specs.RowRead.{GivesInForm, ReadsRow};
 ghost use Rattle.dns_zonefile.specs.ReaderSeen.{given_of, reader_of, refused_in};
 

@@ -1,7 +1,7 @@
 //! The row of an entry of a zone's text.
 ghost use Rattle.std.specs.Prelude.{◌≡◌, drop, IfOk};
 ghost use Rattle.zone_explain.specs.Explained.{behind_blanks as spec_behind_blanks};
-ghost use Rattle.dns_zonefile.specs.LineMark.{MarksLine};
+ghost use Rattle.dns_entry_scanner.specs.LineMark.{MarksLine};
 ghost use Rattle.zone_explain.specs.EntryRow.{IsEntryRow};
 
 use super::{Located, Reason};

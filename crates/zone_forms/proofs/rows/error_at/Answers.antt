@@ -1,5 +1,5 @@
 use Rattle.std.proofs.Common.{◌≡◌, ◌+◌, ap, arith}
-use Rattle.dns_zonefile.specs.Reader.{line_at}
+use Rattle.dns_entry_scanner.specs.Lines.{line_at}
 use Rattle.zone_forms.specs.declared.error.FormError.TheVariants.{Line}
 use Rattle.zone_forms.proofs.rows.error_at.Goals as goal
 

@@ -1,6 +1,6 @@
 use Rattle.std.proofs.Common.{◌≡◌, take, arith}
-use Rattle.dns_zonefile.proofs.MarkedLines.{lines-some}
-use Rattle.dns_zonefile.specs.Reader.{line_at}
+use Rattle.dns_entry_scanner.proofs.MarkedLines.{lines-some}
+use Rattle.dns_entry_scanner.specs.Lines.{line_at}
 use Rattle.zone_forms.proofs.rows.feeds_at.Goals as goal
 
 pub returns : goal.returns

@@ -1,7 +1,7 @@
 use Rattle.std.proofs.Common.{◌≡◌, ◌∙◌, sym, ap, subst}
 use Rattle.dns_message.specs.Held.{record_of}
 use Rattle.dns_zonefile.specs.Entry.Entry.{Resource}
-use Rattle.dns_zonefile.specs.Reader.{line_at}
+use Rattle.dns_entry_scanner.specs.Lines.{line_at}
 use Rattle.dns_zonefile.specs.ReaderSeen.{reader_of}
 use Rattle.zone.specs.Reading.{BreaksRule}
 use Rattle.zone.proofs.ReaderSteps.{number_given}

@@ -1,9 +1,9 @@
 use Rattle.std.proofs.Common.{◌≡◌, ◌∙◌, sym, ap, subst}
-use Rattle.dns_zonefile.specs.LineMark.{MarksLine}
+use Rattle.dns_entry_scanner.specs.LineMark.{MarksLine}
 use Rattle.dns_zonefile.specs.PassedOver.{PassesOver}
-use Rattle.dns_zonefile.specs.Reader.{line_at}
+use Rattle.dns_entry_scanner.specs.Lines.{line_at}
 use Rattle.dns_zonefile.specs.ReaderSeen.{reader_of}
-use Rattle.dns_zonefile.specs.declared.line_mark.LineMark.{LineMark}
+use Rattle.dns_entry_scanner.specs.declared.line_mark.LineMark.{LineMark}
 use Rattle.dns_zonefile.specs.declared.zonefile.Zonefile.{Zonefile}
 use Rattle.zone.proofs.ReaderSteps.{number_refused}
 use Rattle.zone_explain.specs.AllFaults.{front_refused}

@@ -6,10 +6,11 @@ use Rattle.dns_message.specs.Record.{record_octets}
 use Rattle.dns_entry_scanner.specs.declared.entry_error.EntryError.{EntryError}
 use Rattle.dns_zonefile.specs.Composed.{with_reason}
 use Rattle.dns_zonefile.specs.Entry.{Context, Entry}
-use Rattle.dns_zonefile.specs.LineMark.{MarksLine}
-use Rattle.dns_zonefile.specs.Reader.{Gives, line_at}
+use Rattle.dns_entry_scanner.specs.LineMark.{MarksLine}
+use Rattle.dns_zonefile.specs.Reader.{Gives}
+use Rattle.dns_entry_scanner.specs.Lines.{line_at}
 use Rattle.dns_zonefile.specs.ReaderSeen.{reader_of}
-use Rattle.dns_zonefile.specs.declared.line_mark.LineMark.{LineMark}
+use Rattle.dns_entry_scanner.specs.declared.line_mark.LineMark.{LineMark}
 use Rattle.dns_zonefile.specs.declared.zonefile.Zonefile.{Zonefile}
 use Rattle.zone.proofs.ReaderSteps.{number_given}
 use Rattle.zone.proofs.ReadRecords.{data_given, record_handed, record_is, shorter_read}

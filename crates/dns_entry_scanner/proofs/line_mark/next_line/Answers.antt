@@ -1,6 +1,6 @@
 use Rattle.std.proofs.Common.{arith}
-use Rattle.dns_zonefile.proofs.Lines.{line_ended, line_passed}
-use Rattle.dns_zonefile.proofs.line_mark.next_line.Goals as goal
+use Rattle.dns_entry_scanner.proofs.Lines.{line_ended, line_passed}
+use Rattle.dns_entry_scanner.proofs.line_mark.next_line.Goals as goal
 
 pub returns-then-end-text-clause-left : goal.returns-then-end-text-clause-left
 returns-then-end-text-clause-left c =

@@ -1,6 +1,6 @@
 use Rattle.std.proofs.Common.{◌≡◌, ◌+◌, ◌≤◌, length}
-use Rattle.dns_zonefile.specs.Reader.{line_behind}
-use Rattle.dns_zonefile.proofs.line_mark.line_behind.Given as goal
+use Rattle.dns_entry_scanner.specs.Lines.{line_behind}
+use Rattle.dns_entry_scanner.proofs.line_mark.line_behind.Given as goal
 
 abbrev pub invariant-loop-block : goal.invariant-loop-block
 invariant-loop-block l = (l.line + line_behind l.left ≡ line_behind l.before + 1) × (l.line + length l.left ≤ length l.before + 1)

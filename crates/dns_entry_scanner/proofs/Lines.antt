@@ -2,8 +2,7 @@
 use Rattle.std.proofs.Common.{◌≡◌, ◌+◌, ◌%◌, ◌<◌, ◌≤◌, ◌==◌, ◌∙◌, ℕ, suc, Bool, true, false, cond, if◌then◌else◌, List, [], ◌∷◌, ◌++◌, map, nat_eq, length, take, drop, refl, sym, subst, ap, arith, length-append}
 use Rattle.std.proofs.lemmas.List.{drop-drop, drop_all, take-append-drop}
 use Rattle.dns_text.specs.Tokens.{from_feed}
-use Rattle.dns_zonefile.specs.PassedOver.{behind_line}
-use Rattle.dns_zonefile.specs.Reader.{line_behind}
+use Rattle.dns_entry_scanner.specs.Lines.{behind_line, line_behind}
 use lib.Lanes.{fold_l, sel_l, top, zip2}
 use lib.ListN.{replicate}
 

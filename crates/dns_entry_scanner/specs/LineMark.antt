@@ -1,7 +1,7 @@
 -- Marks of lines in a text.
 use Rattle.std.specs.Prelude.{◌≡◌, ◌≤◌, ℕ, List, length}
-use Rattle.dns_zonefile.specs.Reader.{line_at}
-use Rattle.dns_zonefile.specs.declared.line_mark.LineMark.{LineMark}
+use Rattle.dns_entry_scanner.specs.Lines.{line_at}
+use Rattle.dns_entry_scanner.specs.declared.line_mark.LineMark.{LineMark}
 
 -- the mark is at a place of the text, and its line is that of the place
 abbrev pub MarksLine : List ℕ → LineMark → Type 0

@@ -1,9 +1,9 @@
 use Rattle.std.proofs.Common.{◌≡◌, ◌≤◌, ◌<◌, ◌^◌, ◌+◌, ◌-◌, ℕ, length, take, drop, arith, rules, ◌∙◌, ap}
 use Rattle.std.proofs.lemmas.Bool.Decides.{nat_tests}
 use Rattle.std.proofs.lemmas.List.{length-take, take_min}
-use Rattle.dns_zonefile.specs.Reader.{line_at, line_behind}
-use Rattle.dns_zonefile.proofs.MarkedLines.{lines-few, lines-on, lines-some}
-use Rattle.dns_zonefile.proofs.line_mark.LineMark.line_of.Goals as goal
+use Rattle.dns_entry_scanner.specs.Lines.{line_at, line_behind}
+use Rattle.dns_entry_scanner.proofs.MarkedLines.{lines-few, lines-on, lines-some}
+use Rattle.dns_entry_scanner.proofs.line_mark.LineMark.line_of.Goals as goal
 
 pub returns : goal.returns
 returns c = λ marks.

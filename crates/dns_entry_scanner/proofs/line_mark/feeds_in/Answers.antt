@@ -1,8 +1,8 @@
 use Rattle.std.proofs.Common.{◌≡◌, ◌+◌, ◌++◌, ◌∙◌, [], ℕ, List, ap, arith, length, sym, take}
 use Rattle.std.proofs.lemmas.List.{take_all}
-use Rattle.dns_zonefile.specs.Reader.{line_behind}
-use Rattle.dns_zonefile.proofs.Lines.{added, block_feeds, feeds_few, ones}
-use Rattle.dns_zonefile.proofs.line_mark.feeds_in.Goals as goal
+use Rattle.dns_entry_scanner.specs.Lines.{line_behind}
+use Rattle.dns_entry_scanner.proofs.Lines.{added, block_feeds, feeds_few, ones}
+use Rattle.dns_entry_scanner.proofs.line_mark.feeds_in.Goals as goal
 use lib.Lanes.{fold_l}
 
 -- the block, and what it is counted by

@@ -1,10 +1,9 @@
 //! Lines of a text.
 ghost use Rattle.std.specs.Prelude.{◌≡◌, ◌<◌, ◌≤◌, ◌+◌, ◌++◌, ℕ, List, drop, length};
-ghost use Rattle.dns_zonefile.specs.LineMark.{MarksLine};
-ghost use Rattle.dns_zonefile.specs.PassedOver.{behind_line};
-ghost use Rattle.dns_zonefile.specs.Reader.{line_at, line_behind as spec_line_behind};
+ghost use Rattle.dns_entry_scanner.specs.LineMark.{MarksLine};
+ghost use Rattle.dns_entry_scanner.specs.Lines.{behind_line, line_at, line_behind as spec_line_behind};
 
-use dns_entry_scanner::line_end;
+use crate::line_end;
 use std::simd::prelude::*;
 
 /// How many octets are searched for line feeds together.

@@ -2,9 +2,9 @@
 use Rattle.std.proofs.Common.{◌≡◌, ◌≤◌, ◌+◌, ◌-◌, ◌==◌, ◌++◌, ◌∙◌, ℕ, suc, Bool, true, false, if◌then◌else◌, List, [], ◌∷◌, length, take, drop, sym, ap, arith, length-append}
 use Rattle.std.proofs.Math.Seq.{take-add}
 use Rattle.std.proofs.lemmas.List.{take-append-le}
-use Rattle.dns_zonefile.specs.LineMark.{MarksLine}
-use Rattle.dns_zonefile.specs.Reader.{line_at, line_behind}
-use Rattle.dns_zonefile.specs.declared.line_mark.LineMark.{LineMark}
+use Rattle.dns_entry_scanner.specs.LineMark.{MarksLine}
+use Rattle.dns_entry_scanner.specs.Lines.{line_at, line_behind}
+use Rattle.dns_entry_scanner.specs.declared.line_mark.LineMark.{LineMark}
 
 step : (feed : Bool) (whole left right : ℕ) → whole + 1 ≡ left + right
     → (if feed then suc whole else whole) + 1 ≡ (if feed then suc left else left) + right

@@ -1,7 +1,7 @@
 use Rattle.std.proofs.Common.{◌≡◌, ◌+◌, ◌++◌, ◌≤◌, ◌∙◌, List, ℕ, ap, arith, length, length-append, rules}
-use Rattle.dns_zonefile.specs.Reader.{line_behind}
-use Rattle.dns_zonefile.proofs.Lines.{block_front}
-use Rattle.dns_zonefile.proofs.line_mark.line_behind.Goals as goal
+use Rattle.dns_entry_scanner.specs.Lines.{line_behind}
+use Rattle.dns_entry_scanner.proofs.Lines.{block_front}
+use Rattle.dns_entry_scanner.proofs.line_mark.line_behind.Goals as goal
 
 pub overflow_add-line : goal.overflow_add-line
 overflow_add-line c =
