@@ -28,8 +28,8 @@ pub use display::ZoneFileDisplay;
 pub use dns_scan::{
     CharStr, CharStrBuilder, CharStrError, CharStrIter, ConvertSymbols, DecodeError, DecodedOctet,
     DisplayEncoded, DisplayQuoted, DisplayUnquoted, EntrySymbol, FromStrError, IterScanner,
-    PresentationError, Scan, Scanner, ScannerError, StrError, base16, base32, base64,
-    number_of, scan_unknown_octets, scan_without_marker,
+    PresentationError, Scan, Scanner, ScannerError, StrError, base16, base32, base64, number_of,
+    scan_unknown_octets, scan_without_marker,
 };
 pub use formatter::Formatter;
 pub use layout::DisplayKind;
