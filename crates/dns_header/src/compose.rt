@@ -99,8 +99,9 @@ fn append_parts<N: ToName, Data: ComposeRecordData, Target: Composer>(
     rdata.compose_len_rdata(target)
 }
 
-/// Appends an owner and then the octets, all or nothing.
-pub(crate) fn compose_head<N: ToName, Target: Composer>(
+/// Appends an owner, which may be written with a pointer, and then the octets as they are, all or nothing. Fails with `ShortBuf`
+/// only if the target is too full, and with `OutOfMemory` only if out of memory.
+pub fn compose_head<N: ToName, Target: Composer>(
     owner: &N,
     octets: &[u8],
     target: &mut Target,

@@ -14,7 +14,7 @@ mod record;
 mod record_header;
 mod section;
 
-pub use compose::ComposeRecord;
+pub use compose::{ComposeRecord, compose_head};
 pub use counts::{CountOverflow, HeaderCounts};
 pub use header::{Flags, FlagsFromStrError, Header};
 pub use opt::{Opt, OptHeader, OptIter, OptRecord};
