@@ -22,3 +22,4 @@ pub mod TypesLeft
 pub mod TypesSought
 pub mod TypesAscend
 pub mod FrequentTypes
+pub mod ParsedNumbers

@@ -25,7 +25,7 @@ pub fn read_certificate_type(word: &[u8]) -> Option<u16>
 }
 
 /// Returns the number of 8 bits that these digits spell.
-#[tactic(auto, using(dns_scan::proofs::Numerals::spelled_rules))]
+#[tactic(auto, using(crate::proofs::ParsedNumbers::parsed_rules))]
 fn read_number8(digits: &[u8]) -> Option<u8>
     ensures { result ≡ number_spelled (2 ^ 8) digits.now }
 {
@@ -33,7 +33,7 @@ fn read_number8(digits: &[u8]) -> Option<u8>
 }
 
 /// Returns the number of 16 bits that these digits spell.
-#[tactic(auto, using(dns_scan::proofs::Numerals::spelled_rules))]
+#[tactic(auto, using(crate::proofs::ParsedNumbers::parsed_rules))]
 fn read_number16(digits: &[u8]) -> Option<u16>
     ensures { result ≡ number_spelled (2 ^ 16) digits.now }
 {

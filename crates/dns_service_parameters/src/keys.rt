@@ -115,7 +115,7 @@ fn has_leading_zero(digits: &[u8]) -> bool
 }
 
 /// Returns the number of 16 bits that the digits write.
-#[tactic(auto, using(dns_values::proofs::Words::spelled_rules, dns_scan::proofs::Numerals::spelled_rules))]
+#[tactic(auto, using(dns_values::proofs::Words::spelled_rules, dns_field_texts::proofs::ParsedNumbers::parsed_rules))]
 pub(crate) fn read_number(digits: &[u8]) -> Option<u16>
     ensures { result ≡ number_spelled (2 ^ 16) digits.now }
 {
