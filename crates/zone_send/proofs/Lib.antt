@@ -15,6 +15,7 @@ pub mod SpelledAnswers
 pub mod SpelledCuts
 pub mod SpelledItems
 pub mod SpelledPages
+pub mod OpaqueRecords
 pub mod SpelledPushes
 pub mod SpelledStreams
 pub mod SpelledSums

@@ -12,6 +12,7 @@ ghost use Rattle.zone.specs.View.{apex_of};
 
 mod error;
 mod header;
+mod opaque;
 mod plain;
 mod spelled;
 

@@ -18,6 +18,7 @@ ghost use Rattle.zone_send.specs.SpelledSending.{IsItem, AreItems, HoldsGroup, I
 
 use super::error::SendError;
 use super::header::header_of;
+use super::opaque::{OpaqueRecord, is_opaque};
 use dns_message::{
     AnswerBuilder, HashCompressor, MessageBuilder, PushError, StaticCompressor, StreamTarget,
     TreeCompressor,
@@ -219,7 +220,11 @@ fn push_record<Target: FrameTarget>(
         IsItem item next.now → HoldsGroup Target.spelling query item max group (draft_of builder.old) →
         IsPushed Target.spelling query item max group next.now placed (draft_of builder.new)) }
 {
-    was_taken(builder.push_ref(&typed_record(next)))
+    if is_opaque(next.rtype()) {
+        was_taken(builder.push_ref(&OpaqueRecord { inner: next }))
+    } else {
+        was_taken(builder.push_ref(&typed_record(next)))
+    }
 }
 
 /// Returns whether a push succeeded. Fails if out of memory. So a lawful record is not taken only if it has no room.
