@@ -1,3 +1,5 @@
+pub mod RoomBehind
+pub mod DottedNames
 pub mod PlainOctets
 pub mod Lines
 pub mod MarkedLines

@@ -1,5 +1,5 @@
 -- A name that a token spells, appended to octets.
-use Rattle.std.specs.Prelude.{◌≡◌, ◌==◌, ℕ, Bool, List, Some, ◌∷◌, ◌++◌, not}
+use Rattle.std.specs.Prelude.{◌≡◌, ◌==◌, ℕ, Bool, List, Some, ◌∷◌, ◌++◌, length, not}
 use Rattle.dns_label.specs.Name.{IsName, wire}
 use Rattle.dns_scan.specs.Token.{Token, unquoted}
 use Rattle.dns_entry_scanner.specs.NameInText.{SpellsUnder}
@@ -26,3 +26,9 @@ pub record OneLabelUnder (text : List ℕ) (origin : List (List ℕ)) (old new :
   pub spells : SpellsUnder (Some origin) text (text ∷ origin)
   pub is_name : IsName (text ∷ origin)
   pub behind : new ≡ old ++ wire (text ∷ origin)
+
+-- the octets come first, and so many others of any value behind them
+pub record HasBehind (room : ℕ) (octets all : List ℕ) : Type 0 where
+  pub others : List ℕ
+  pub long : length others ≡ room
+  pub is : all ≡ octets ++ others

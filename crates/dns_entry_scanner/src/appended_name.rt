@@ -4,38 +4,40 @@ ghost use Rattle.std.specs.Prelude.{◌≡◌, ◌≢◌, ◌↔◌, ◌+◌, �
 ghost use Rattle.dns_label.specs.Name.{IsName, wire};
 ghost use Rattle.dns_label.specs.NameText.{IsAbsoluteText};
 ghost use Rattle.dns_wire.specs.Unescaped.{is_unescaped};
-ghost use Rattle.dns_entry_scanner.specs.AppendedName.{OneLabelUnder, is_no_dot};
+ghost use Rattle.dns_entry_scanner.specs.AppendedName.{HasBehind, OneLabelUnder, is_no_dot};
 ghost use Rattle.dns_entry_scanner.specs.EntryError.{is_memory};
 ghost use Rattle.dns_entry_scanner.specs.NameInText.{SpellsUnder};
 
+use crate::dotted_name::{LANES, OtherThanDot, append_dotted_name, append_longer};
 use crate::row_token::RowToken;
 use crate::{EntryError, InlineName, TextName};
-use dns_name::{Name, OctetKind, run_end};
+use dns_name::{Composer, Name, run_end};
 use std::alloc::{AllocError, Global};
-use std::simd::prelude::*;
 
-/// Appends the octets of the name that a token's text spells under the origin, if one is known. `TextName::scan_name`
-/// says which name this is.
+/// Appends the octets of the name that a token's text spells under the origin, if one is known, and `room` octets of any value
+/// behind them. `TextName::scan_name` says which name this is.
 ///
 /// Fails as that call does, and then appends nothing.
 pub(crate) fn append_name(
     alloc: Global,
     token: RowToken<'_>,
     origin: Option<&Name<Vec<u8>>>,
+    room: usize,
     octets: &mut Vec<u8>,
 ) -> Result<(), EntryError>
+    requires { room ≤ 255 }
     ensures ok { OnOk result ((name : List (List ℕ)) × SpellsUnder (option_copied origin.entry) token.entry.text.now name × IsName name
-        × (octets.new.items ≡ octets.old.items ++ wire name)) }
+        × HasBehind room (octets.old.items ++ wire name) octets.new.items) }
     ensures err { IfErr result (λ error. is_memory error ≡ false → (name : List (List ℕ)) → SpellsUnder (option_copied origin.entry) token.entry.text.now name → ⊥) }
     ensures same { OnErr result (octets.new.items ≡ octets.old.items) }
 {
-    if append_dotted(token.text, octets) {
+    if append_dotted(token, room, octets) {
         return Ok(());
     }
-    if append_label(token, origin, octets) {
+    if append_label(token, origin, room, octets) {
         return Ok(());
     }
-    append_spelled(alloc, token.text, origin, octets)
+    append_spelled(alloc, token.text, origin, room, octets)
 }
 
 /// The same for any text. It spells the name into an array first. Clearing that array takes time, so the fast cases
@@ -45,30 +47,54 @@ fn append_spelled(
     alloc: Global,
     text: &[u8],
     origin: Option<&Name<Vec<u8>>>,
+    room: usize,
     octets: &mut Vec<u8>,
 ) -> Result<(), EntryError>
+    requires { room ≤ 255 }
     ensures ok { OnOk result ((name : List (List ℕ)) × SpellsUnder (option_copied origin.entry) text.now name × IsName name
-        × (octets.new.items ≡ octets.old.items ++ wire name)) }
+        × HasBehind room (octets.old.items ++ wire name) octets.new.items) }
     ensures err { IfErr result (λ error. is_memory error ≡ false → (name : List (List ℕ)) → SpellsUnder (option_copied origin.entry) text.now name → ⊥) }
     ensures same { OnErr result (octets.new.items ≡ octets.old.items) }
 {
     let name: InlineName = TextName::scan_name(alloc, text, origin)?;
-    Ok(octets.extend_from_slice(name.as_slice())?)
+    let len = octets.len();
+    let wire = name.as_slice();
+    let appended = append_longer(wire, wire, room, octets);
+    if appended.is_err() {
+        octets.truncate(len);
+        return Err(EntryError::OutOfMemory);
+    }
+    Ok(())
 }
 
-/// Appends the octets of the name if the text spells an absolute name, and returns whether it did. Appends nothing if
-/// the text spells no such name, or if out of memory.
-fn append_dotted(text: &[u8], octets: &mut Vec<u8>) -> bool
-    ensures yes { IsTrue result → (name : List (List ℕ)) × IsAbsoluteText text.now name × (octets.new.items ≡ octets.old.items ++ wire name) }
+/// Appends the octets of the name if the text spells an absolute name without an escape, and `room` octets of any value behind them.
+/// Returns whether it did. Appends nothing if the text spells no such name, or if out of memory.
+fn append_dotted(token: RowToken<'_>, room: usize, octets: &mut Vec<u8>) -> bool
+    requires { room ≤ 255 }
+    ensures yes { IsTrue result → (name : List (List ℕ)) × IsAbsoluteText token.entry.text.now name
+        × HasBehind room (octets.old.items ++ wire name) octets.new.items }
     ensures no { result ≡ false → octets.new.items ≡ octets.old.items }
 {
-    if is_root(text) {
-        return octets.push(0).is_ok();
+    if is_root(token.text) {
+        return match append_root(room, octets) {
+            Ok(()) => true,
+            Err(_) => false,
+        };
     }
-    match text.split_last() {
-        Some((b'.', _)) => Name::append_absolute_text(octets, text).is_ok(),
+    match token.text.split_last() {
+        Some((b'.', _)) => append_dotted_name(token, room, octets),
         _ => false,
     }
+}
+
+/// Appends the root's octet and `room` octets of any value. If out of memory, fails and then appends nothing.
+fn append_root(room: usize, octets: &mut Vec<u8>) -> Result<(), AllocError>
+    requires { room ≤ 255 }
+    ensures ok { OnOk result (HasBehind room (octets.old.items ++ 0 ∷ []) octets.new.items) }
+    ensures same { OnErr result (octets.new.items ≡ octets.old.items) }
+{
+    octets.resize(octets.len() + 1 + room, 0)?;
+    Ok(())
 }
 
 /// Returns whether the text spells the root, as a dot alone.
@@ -78,12 +104,18 @@ fn is_root(text: &[u8]) -> bool
     matches!(text, [b'.'])
 }
 
-/// Appends the octets of the name if the text is one label without an escape, completed with the origin, and returns
-/// whether it did. Appends nothing if there is no origin, if the text is another or the name too long, or if out of
+/// Appends the octets of the name if the text is one label without an escape, completed with the origin, and `room` octets behind
+/// them. Returns whether it did. Appends nothing if there is no origin, if the text is another or the name too long, or if out of
 /// memory.
-fn append_label(token: RowToken<'_>, origin: Option<&Name<Vec<u8>>>, octets: &mut Vec<u8>) -> bool
+fn append_label(
+    token: RowToken<'_>,
+    origin: Option<&Name<Vec<u8>>>,
+    room: usize,
+    octets: &mut Vec<u8>,
+) -> bool
+    requires { room ≤ 255 }
     ensures yes { IsTrue result → (name : List (List ℕ)) × SpellsUnder (option_copied origin.entry) token.entry.text.now name × IsName name
-        × (octets.new.items ≡ octets.old.items ++ wire name) }
+        × HasBehind room (octets.old.items ++ wire name) octets.new.items }
     ensures no { result ≡ false → octets.new.items ≡ octets.old.items }
 {
     let Some(origin) = origin else {
@@ -93,7 +125,7 @@ fn append_label(token: RowToken<'_>, origin: Option<&Name<Vec<u8>>>, octets: &mu
         return false;
     }
     let len = octets.len();
-    let is_whole = append_before(token.text, origin, octets).is_ok();
+    let is_whole = append_before(token, origin, room, octets).is_ok();
     if !is_whole {
         octets.truncate(len);
     }
@@ -120,41 +152,26 @@ fn has_no_dot(token: RowToken<'_>) -> bool
     len <= run_end::<OtherThanDot>(near, 0)
 }
 
-/// The number of octets that are tested at once.
-const LANES: usize = 16;
-
-/// Octets other than the dot.
-struct OtherThanDot;
-
-impl OctetKind for OtherThanDot {
-    ghost has = { is_no_dot };
-
-    fn has(octet: u8) -> bool {
-        octet != b'.'
-    }
-
-    fn others(octets: u8x16) -> u64 {
-        octets.simd_eq(u8x16::splat(b'.')).to_bitmask()
-    }
-}
-
-/// Appends the length of the label, the label and the octets of the origin. If out of memory, fails and may have
-/// appended a part of them.
+/// Appends the length of the token's label, the label, the octets of the origin, and `room` octets behind them. If out of memory,
+/// fails and may have appended a part of them.
 fn append_before(
-    label: &[u8],
+    token: RowToken<'_>,
     origin: &Name<Vec<u8>>,
+    room: usize,
     octets: &mut Vec<u8>,
 ) -> Result<(), AllocError>
-    requires all { list_all is_unescaped label.now ≡ true }
-    requires some { 0 < length label.now }
-    requires short { length label.now ≤ 63 }
-    requires other { label.now ≢ 64 ∷ [] }
-    requires fits { length label.now + length (wire origin.now) ≤ 254 }
-    ensures ok { OnOk result (OneLabelUnder label.now origin.now octets.old.items octets.new.items) }
+    requires all { list_all is_unescaped token.text.now ≡ true }
+    requires some { 0 < length token.text.now }
+    requires short { length token.text.now ≤ 63 }
+    requires other { token.text.now ≢ 64 ∷ [] }
+    requires fits { length token.text.now + length (wire origin.now) ≤ 254 }
+    requires room { room ≤ 255 }
+    ensures ok { OnOk result ((whole : List ℕ) × OneLabelUnder token.entry.text.now origin.now octets.old.items whole × HasBehind room whole octets.new.items) }
     ensures more { take (length octets.old.items) octets.new.items ≡ octets.old.items }
 {
-    octets.push(label.len() as u8)?;
-    octets.extend_from_slice(label)?;
-    octets.extend_from_slice(origin.as_slice())?;
+    let origin = origin.as_slice();
+    octets.push(token.text.len() as u8)?;
+    append_longer(token.text, token.from, origin.len() + room, octets)?;
+    octets.patch(octets.len() - room - origin.len(), origin);
     Ok(())
 }

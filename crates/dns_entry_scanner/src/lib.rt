@@ -13,6 +13,7 @@
 
 mod appended_name;
 mod appended_string;
+mod dotted_name;
 mod entry_error;
 mod entry_scanner;
 mod gap;

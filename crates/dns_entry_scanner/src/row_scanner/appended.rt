@@ -1,5 +1,6 @@
 //! Scanning a row's tokens into octets.
-ghost use Rattle.std.specs.Prelude.{◌≡◌, ◌++◌, List, ℕ, [], false, length, take, IfErr, OnErr, OnOk};
+ghost use Rattle.std.specs.Prelude.{◌≡◌, ◌≤◌, ◌++◌, List, ℕ, [], false, length, take, IfErr, OnErr, OnOk};
+ghost use Rattle.dns_entry_scanner.specs.AppendedName.{AppendsName, HasBehind, SpellsNoName};
 ghost use Rattle.dns_entry_scanner.specs.EntryError.{is_end, is_memory};
 ghost use Rattle.dns_scan.specs.Token.{IsEnding, IsEntry, IsStringOnWire, SameNames};
 
@@ -10,11 +11,7 @@ use crate::{EntryError, TextName, WireScanner};
 
 impl<'t, N: TextName> WireScanner for RowScanner<'t, N> {
     fn scan_name_into(&mut self, octets: &mut Vec<u8>) -> Result<(), EntryError> {
-        let token = self.take_token()?;
-        if token.quoted {
-            return Err(EntryError::Custom("quoted name"));
-        }
-        append_name(self.alloc, token, self.origin, octets)
+        self.scan_name_and_room(0, octets)
     }
 
     fn scan_octets_into(&mut self, octets: &mut Vec<u8>) -> Result<(), EntryError> {
@@ -34,6 +31,33 @@ impl<'t, N: TextName> WireScanner for RowScanner<'t, N> {
             octets.truncate(len);
         }
         appended
+    }
+}
+
+impl<'t, N: TextName> RowScanner<'t, N> {
+    ghost use Rattle.dns_entry_scanner.specs.RowScanner.{names_of, tokens_of};
+
+    /// Takes the next token, and appends the octets of the name that it spells and `room` octets of any value behind them, for the
+    /// caller to write over.
+    ///
+    /// Fails as `scan_name_into` does, and then appends nothing.
+    pub fn scan_name_and_room(
+        &mut self,
+        room: usize,
+        octets: &mut Vec<u8>,
+    ) -> Result<(), EntryError>
+        requires { room ≤ 255 }
+        ensures ok { OnOk result ((named : List ℕ) × AppendsName (names_of self.old) (tokens_of self.old) (tokens_of self.new) octets.old.items named
+            × HasBehind room named octets.new.items) }
+        ensures err { IfErr result (λ error. is_memory error ≡ false → SpellsNoName (names_of self.old) (tokens_of self.old)) }
+        ensures names { SameNames (names_of self.old) (names_of self.new) }
+        ensures same { OnErr result (octets.new.items ≡ octets.old.items) }
+    {
+        let token = self.take_token()?;
+        if token.quoted {
+            return Err(EntryError::Custom("quoted name"));
+        }
+        append_name(self.alloc, token, self.origin, room, octets)
     }
 }
 

@@ -1,7 +1,7 @@
 use Rattle.std.proofs.Common.{◌==◌, ℕ, cond, arith}
 use Rattle.std.proofs.lemmas.Simd.{zip2_splat}
 use Rattle.dns_label.proofs.LaneMarks.{mask_of_marks}
-use Rattle.dns_entry_scanner.proofs.appended_name.OtherThanDotOctetKind.others.Goals as goal
+use Rattle.dns_entry_scanner.proofs.dotted_name.OtherThanDotOctetKind.others.Goals as goal
 
 abbrev same : ℕ → ℕ → ℕ
 same octet other = cond (octet == other) 255 0
