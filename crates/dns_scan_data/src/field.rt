@@ -1,5 +1,5 @@
 //! Scanning fields into octets.
-ghost use Rattle.std.specs.Prelude.{◌≡◌, false, IfErr, OnOk};
+ghost use Rattle.std.specs.Prelude.{◌≡◌, ◌++◌, true, false, IfErr, OnErr, OnOk};
 ghost use Rattle.dns_fields.specs.Scanned.{NoFieldScans};
 ghost use Rattle.dns_scan.specs.Token.{SameNames};
 ghost use Rattle.dns_scan_data.specs.Appended.{AppendsField, GoesOn};
@@ -27,25 +27,53 @@ pub trait ScanFieldInto<S: Scanner>: HasField {
 
 impl<S: Scanner> ScanFieldInto<S> for u8 {
     fn scan_field_into(scanner: &mut S, octets: &mut Vec<u8>) -> Result<(), S::Error> {
-        scan_and_append::<S, u8>(scanner, octets)
+        let number = match u8::scan_field(scanner) {
+            Ok(number) => number,
+            Err(error) => return Err(error),
+        };
+        match octets.push(number) {
+            Ok(()) => Ok(()),
+            Err(_) => Err(S::Error::short_buf()),
+        }
     }
 }
 
 impl<S: Scanner> ScanFieldInto<S> for u16 {
     fn scan_field_into(scanner: &mut S, octets: &mut Vec<u8>) -> Result<(), S::Error> {
-        scan_and_append::<S, u16>(scanner, octets)
+        let number = match u16::scan_field(scanner) {
+            Ok(number) => number,
+            Err(error) => return Err(error),
+        };
+        match append_two::<S>(octets, number.to_be_bytes()) {
+            Ok(()) => Ok(()),
+            Err(error) => Err(error),
+        }
     }
 }
 
 impl<S: Scanner> ScanFieldInto<S> for u32 {
     fn scan_field_into(scanner: &mut S, octets: &mut Vec<u8>) -> Result<(), S::Error> {
-        scan_and_append::<S, u32>(scanner, octets)
+        let number = match u32::scan_field(scanner) {
+            Ok(number) => number,
+            Err(error) => return Err(error),
+        };
+        match append_four::<S>(octets, number.to_be_bytes()) {
+            Ok(()) => Ok(()),
+            Err(error) => Err(error),
+        }
     }
 }
 
 impl<S: Scanner> ScanFieldInto<S> for Ipv4Addr {
     fn scan_field_into(scanner: &mut S, octets: &mut Vec<u8>) -> Result<(), S::Error> {
-        scan_and_append::<S, Ipv4Addr>(scanner, octets)
+        let address = match Ipv4Addr::scan_field(scanner) {
+            Ok(address) => address,
+            Err(error) => return Err(error),
+        };
+        match append_four::<S>(octets, address.octets()) {
+            Ok(()) => Ok(()),
+            Err(error) => Err(error),
+        }
     }
 }
 
@@ -115,4 +143,40 @@ fn scan_and_append<S: Scanner, A: FieldValue + ScanField<S>>(
         Ok(()) => Ok(()),
         Err(_) => Err(S::Error::short_buf()),
     }
+}
+
+/// Appends two octets. Fails with `short_buf` if out of memory, and then appends nothing.
+///
+/// Room is made for both at once, so each takes a store, where a slice takes a call. It is inlined for the same reason.
+#[inline(always)]
+fn append_two<S: Scanner>(octets: &mut Vec<u8>, both: [u8; 2]) -> Result<(), S::Error>
+    ensures ok { OnOk result (octets.new.items ≡ octets.old.items ++ both) }
+    ensures err { IfErr result (λ error. S.Error.is_short error ≡ true) }
+    ensures same { OnErr result (octets.new.items ≡ octets.old.items) }
+{
+    if octets.reserve(2).is_err() {
+        return Err(S::Error::short_buf());
+    }
+    let [a, b] = both;
+    octets.push_reserved(a);
+    octets.push_reserved(b);
+    Ok(())
+}
+
+/// Appends four octets, as `append_two` does two.
+#[inline(always)]
+fn append_four<S: Scanner>(octets: &mut Vec<u8>, all: [u8; 4]) -> Result<(), S::Error>
+    ensures ok { OnOk result (octets.new.items ≡ octets.old.items ++ all) }
+    ensures err { IfErr result (λ error. S.Error.is_short error ≡ true) }
+    ensures same { OnErr result (octets.new.items ≡ octets.old.items) }
+{
+    if octets.reserve(4).is_err() {
+        return Err(S::Error::short_buf());
+    }
+    let [a, b, c, d] = all;
+    octets.push_reserved(a);
+    octets.push_reserved(b);
+    octets.push_reserved(c);
+    octets.push_reserved(d);
+    Ok(())
 }
