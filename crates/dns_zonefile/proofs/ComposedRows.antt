@@ -10,10 +10,11 @@ use Rattle.dns_label.specs.Name.{IsName, wire}
 use Rattle.dns_name.specs.Remembered.{patched}
 use Rattle.dns_rdata.specs.Data.{Data, ScansAnyData, number_of}
 use Rattle.dns_rdata.specs.DataOctets.{data_octets}
-use Rattle.dns_entry_scanner.specs.AppendedName.{AppendsName, SpellsNoName}
+use Rattle.dns_entry_scanner.specs.AppendedName.{AppendsName, HasBehind, SpellsNoName}
 use Rattle.dns_entry_scanner.specs.NameInText.{SpellsUnder}
 use Rattle.dns_scan.specs.Token.{Token, SameNames}
-use Rattle.dns_scan_data.specs.Appended.{AppendsData}
+use Rattle.dns_scan_data.specs.Appended.{AppendsData, GoesOn}
+use Rattle.dns_scan_data.proofs.Appending.{gone_by, gone_on}
 use Rattle.dns_text.specs.Rows.{TokenRow}
 use Rattle.dns_zonefile.specs.Composed.{HandsOn, composed_octets}
 use Rattle.dns_zonefile.specs.ComposedRow.{BeginsWithName, ComposesData, ComposesRecord, HasNoOwner, IsHandedOn, OwnerStands}
@@ -150,6 +151,26 @@ last_stands {names} {tokens = tokens} {name = name} blank_led known is_name behi
   is_name = is_name;
   behind = behind;
 }
+
+-- the owner, and others of any value behind it
+pub room_gone : {names : Names} {context : Context} {row : TokenRow} {left : List Token} {old owned new : List ℕ} {room : ℕ}
+    → OwnerStands names context row left old owned → HasBehind room owned new → GoesOn old new
+room_gone stands has = gone_on (gone_by _ stands.behind) (gone_by _ has.is)
+
+pub room_size : {owned new : List ℕ} {room : ℕ} → HasBehind room owned new → length new ≡ length owned + room
+room_size {owned} has = let long = has.long in omega (arith, ap (λ (l : List ℕ). length l) has.is, length-append owned has.others, long)
+
+-- the last owner and zeros
+pub last_and_zeros : {names : Names} {context : Context} {blank_led : Bool} {tokens : List Token} {old owned new : List ℕ} {name : List (List ℕ)}
+    (others : List ℕ) → blank_led ≡ true → context.owner ≡ Some name → IsName name → owned ≡ old ++ wire name → length others ≡ 10 → new ≡ owned ++ others
+    → (its : List ℕ) × OwnerStands names context (row_of blank_led tokens) tokens old its × HasBehind 10 its new
+last_and_zeros {owned = owned} others led known is_name behind long all =
+    (owned, last_stands led known is_name behind, record { others = others; long = long; is = all })
+
+pub stated_and_room : {names : Names} {context : Context} {blank_led : Bool} {tokens left : List Token} {old new : List ℕ} → blank_led ≡ false
+    → ((named : List ℕ) × AppendsName names tokens left old named × HasBehind 10 named new)
+    → (its : List ℕ) × OwnerStands names context (row_of blank_led tokens) left old its × HasBehind 10 its new
+stated_and_room unled has = (has.0, stated_stands unled has.1, has.2)
 
 no_stated' : {names : Names} {row : TokenRow} {tokens left : List Token} {stated : Option (List (List ℕ))} → SpellsNoName names tokens
     → row ≡ row_of false tokens → HasOwner names row stated left → ⊥

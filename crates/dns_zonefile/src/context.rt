@@ -3,6 +3,7 @@ ghost use Rattle.std.specs.Prelude.{◌≡◌, ◌<◌, ◌^◌, ◌++◌, List,
 ghost use Rattle.std.specs.Option.{option_or};
 ghost use Rattle.dns_label.specs.Name.{IsName, wire};
 ghost use Rattle.dns_entry_scanner.specs.EntryError.{is_memory};
+ghost use Rattle.dns_zonefile.specs.ComposedRow.{BeginsWithName};
 ghost use Rattle.dns_zonefile.specs.Entry as spec;
 ghost use Rattle.dns_zonefile.specs.Entry.{Enters, at_start};
 ghost use Rattle.dns_zonefile.specs.Seen.{context_of, entry_of, stated_of, statement_of};
@@ -142,6 +143,29 @@ impl Context {
         } }
     {
         self.owner.set(owner);
+        self.take_over_head(last_ttl, class);
+    }
+
+    /// Applies what a record sets whose owner is the first `len` octets.
+    pub(crate) fn take_over_first(&mut self, octets: &[u8], len: usize, last_ttl: Ttl, class: Class)
+        requires { (name : List (List ℕ)) × BeginsWithName octets.now len name }
+        ensures { (name : List (List ℕ)) → BeginsWithName octets.now len name → context_of self.new ≡ record (context_of self.old) {
+          owner = Some name;
+          last_ttl = last_ttl;
+          class = Some class;
+        } }
+    {
+        self.owner.set_first(octets, len);
+        self.take_over_head(last_ttl, class);
+    }
+
+    /// Applies what a record sets beside its owner.
+    fn take_over_head(&mut self, last_ttl: Ttl, class: Class)
+        ensures { context_of self.new ≡ record (context_of self.old) {
+          last_ttl = last_ttl;
+          class = Some class;
+        } }
+    {
         self.last_ttl = last_ttl;
         self.class = Some(class);
     }

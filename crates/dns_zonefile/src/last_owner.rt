@@ -1,5 +1,7 @@
 //! The owner of the last record. A row that begins with white space has the same owner (RFC 1035 5.1).
-ghost use Rattle.std.specs.Prelude.{◌≡◌, Some, None};
+ghost use Rattle.std.specs.Prelude.{◌≡◌, List, ℕ, Some, None, length, take};
+ghost use Rattle.dns_label.specs.Name.{wire};
+ghost use Rattle.dns_zonefile.specs.ComposedRow.{BeginsWithName};
 
 use dns_name::{Name, Octets};
 use std::marker::Model;
@@ -44,6 +46,15 @@ impl LastOwner {
         self.len = octets.len();
     }
 
+    /// Sets the name to that which the first `len` octets are.
+    pub(crate) fn set_first(&mut self, octets: &[u8], len: usize)
+        requires { (name : List (List ℕ)) × BeginsWithName octets.now len name }
+        ensures { (name : List (List ℕ)) → BeginsWithName octets.now len name → self.new ≡ Some name }
+    {
+        copy_name(&mut self.octets, octets, len);
+        self.len = len;
+    }
+
     /// Returns the name, if there is one.
     pub(crate) fn get(&self) -> Option<Name<&[u8]>>
         ensures { result ≡ self.now }
@@ -53,4 +64,18 @@ impl LastOwner {
         }
         Some(Name::from_octets_unchecked(&self.octets[..self.len]))
     }
+}
+
+/// Copies the name that the first `len` octets are. A short one is copied with what is behind it, 32 octets in all: two stores, where
+/// a copy of just its octets takes a call.
+fn copy_name(to: &mut [u8; 255], octets: &[u8], len: usize)
+    requires { (name : List (List ℕ)) × BeginsWithName octets.now len name }
+    ensures name { (name : List (List ℕ)) → BeginsWithName octets.now len name → take len to.new ≡ wire name }
+    ensures size { length to.new ≡ 255 }
+{
+    if len <= 32 && octets.len() >= 32 {
+        to[..32].copy_from_slice(&octets[..32]);
+        return;
+    }
+    to[..len].copy_from_slice(&octets[..len]);
 }

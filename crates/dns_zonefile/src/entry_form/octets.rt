@@ -1,8 +1,9 @@
 //! Records as octets at the end of a vector, composed while they are scanned.
-ghost use Rattle.std.specs.Prelude.{◌≡◌, ◌∷◌, ◌++◌, Bool, List, ℕ, [], Option, Some, Ok, true, false, map, IfErr, IfOk, OnErr, OnOk};
+ghost use Rattle.std.specs.Prelude.{◌≡◌, ◌≤◌, ◌∷◌, ◌++◌, Bool, List, ℕ, [], Option, Some, Ok, true, false, length, map, IfErr, IfOk, OnErr, OnOk};
 ghost use Rattle.dns_header.specs.Head.{fixed_octets};
 ghost use Rattle.dns_header.specs.Record.{RecordOf};
 ghost use Rattle.dns_rdata.specs.Data.{Data, ScansAnyData};
+ghost use Rattle.dns_entry_scanner.specs.AppendedName.{HasBehind};
 ghost use Rattle.dns_entry_scanner.specs.EntryError.{is_memory};
 ghost use Rattle.dns_entry_scanner.specs.RowScanner.{names_of, tokens_of};
 ghost use Rattle.dns_scan_data.specs.Appended.{GoesOn};
@@ -26,6 +27,9 @@ use dns_name::{Class, Composer, Name, Rtype, ToName, Ttl};
 use dns_scan_data::scan_data_into;
 use dns_text::Scanner;
 use std::alloc::Global;
+
+/// The number of octets of a record between its owner and its data: type, class, TTL and RDLENGTH (RFC 1035 3.2.1).
+const FIXED_LEN: usize = 10;
 
 /// A record whose octets were appended: what its row sets, and whether its data is unknown data.
 #[derive(Clone, Copy)]
@@ -67,8 +71,12 @@ impl EntryForm for Vec<u8> {
         let len = self.len();
         match append_record(blank_led, context, &mut scanner, self) {
             Ok(composed) => {
-                let owner = owner_in(&self[len..], composed.owner_len);
-                context.take_over(&owner, composed.last_ttl, composed.class);
+                context.take_over_first(
+                    &self[len..],
+                    composed.owner_len,
+                    composed.last_ttl,
+                    composed.class,
+                );
                 Ok(Some(ComposedEntry::Record {
                     unknown: composed.unknown,
                 }))
@@ -151,8 +159,8 @@ fn append_record(
     ensures more { OnErr result (GoesOn octets.old.items octets.new.items) }
 {
     let len = octets.len();
-    append_owner(blank_led, context, scanner, octets)?;
-    let owner_len = octets.len() - len;
+    append_owner_and_room(blank_led, context, scanner, octets)?;
+    let owner_len = octets.len() - FIXED_LEN - len;
     let head = match scan_head(scanner) {
         Ok(head) => head,
         Err(error) => return Err(error),
@@ -161,7 +169,7 @@ fn append_record(
         Ok(known) => known,
         Err(error) => return Err(error),
     };
-    append_fixed(head.rtype, known.class, known.ttl, octets)?;
+    put_fixed(head.rtype, known.class, known.ttl, octets);
     let unknown = append_data(head.rtype, scanner, octets)?;
     Ok(ComposedRecord {
         owner_len,
@@ -202,22 +210,47 @@ pub(super) fn owner_in(octets: &[u8], len: usize) -> Name<&[u8]>
     Name::from_octets_unchecked(&octets[..len])
 }
 
-/// Appends the octets of a type, a class and a TTL, and two zeros for RDLENGTH. Fails with `OutOfMemory` if out of
-/// memory, and then changes nothing.
-fn append_fixed(
-    rtype: Rtype,
-    class: Class,
-    ttl: Ttl,
+/// Appends the same, and behind them as many octets of any value as a record has between its owner and its data, for
+/// `put_fixed` to write over.
+fn append_owner_and_room(
+    blank_led: bool,
+    context: &Context,
+    scanner: &mut RowScanner<'_, InlineName>,
     octets: &mut Vec<u8>,
 ) -> Result<(), EntryError>
-    ensures ok { OnOk result (octets.new.items ≡ octets.old.items ++ (fixed_octets rtype class ttl ++ 0 ∷ 0 ∷ [])) }
-    ensures err { IfErr result (λ error. is_memory error ≡ true) }
-    ensures same { OnErr result (octets.new.items ≡ octets.old.items) }
+    ensures ok { OnOk result ((owned : List ℕ) × OwnerStands (names_of scanner.old) (context_of context.now) (row_of blank_led (tokens_of scanner.old))
+        (tokens_of scanner.new) octets.old.items owned × HasBehind 10 owned octets.new.items) }
+    ensures err { IfErr result (λ error. is_memory error ≡ false
+        → HasNoOwner (names_of scanner.old) (context_of context.now) (row_of blank_led (tokens_of scanner.old))) }
+    ensures names { SameNames (names_of scanner.old) (names_of scanner.new) }
+    ensures more { OnErr result (GoesOn octets.old.items octets.new.items) }
+{
+    if blank_led {
+        context.append_last_owner(octets)?;
+        return Ok(octets.extend_from_slice(&[0; FIXED_LEN])?);
+    }
+    scanner.scan_name_and_room(FIXED_LEN, octets)
+}
+
+/// Writes the octets of a type, a class and a TTL, and two zeros for RDLENGTH, over the last ten octets.
+fn put_fixed(rtype: Rtype, class: Class, ttl: Ttl, octets: &mut Vec<u8>)
+    requires { 10 ≤ length octets.old.items }
+    ensures { (owned : List ℕ) → HasBehind 10 owned octets.old.items
+        → octets.new.items ≡ owned ++ (fixed_octets rtype class ttl ++ 0 ∷ 0 ∷ []) }
+{
+    let fixed = fixed_octets(rtype, class, ttl);
+    octets.patch(octets.len() - FIXED_LEN, &fixed);
+}
+
+/// Returns the octets of a type, a class and a TTL, and two zeros for RDLENGTH.
+fn fixed_octets(rtype: Rtype, class: Class, ttl: Ttl) -> [u8; FIXED_LEN]
+    ensures octets { result ≡ fixed_octets rtype class ttl ++ 0 ∷ 0 ∷ [] }
+    ensures long { length result ≡ 10 }
 {
     let [a, b] = rtype.to_int().to_be_bytes();
     let [c, d] = class.to_int().to_be_bytes();
     let [e, f, g, h] = ttl.as_secs().to_be_bytes();
-    Ok(octets.extend_from_slice(&[a, b, c, d, e, f, g, h, 0, 0])?)
+    [a, b, c, d, e, f, g, h, 0, 0]
 }
 
 /// Appends the octets of data of the type, whose tokens end the row, and writes their number over the two zeros before

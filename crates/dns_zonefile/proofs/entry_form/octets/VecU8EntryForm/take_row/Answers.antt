@@ -1,4 +1,4 @@
-use Rattle.std.proofs.Common.{sym, ap, ◌∙◌, arith, drop, List, ℕ}
+use Rattle.std.proofs.Common.{refl, sym, ap, ◌∙◌, arith, drop, List, ℕ}
 use Rattle.std.proofs.lemmas.List.{take_rest}
 use Rattle.dns_zonefile.specs.Seen.{row_of}
 use Rattle.dns_zonefile.proofs.ComposedRows.{record_begins, record_handed}
@@ -18,8 +18,8 @@ returns-then-begins_directive-clause-err c =
 pub append_record-requires : goal.append_record-requires
 append_record-requires c = c.begins_directive.ensures.no c.if-begins_directive.false
 
-pub owner_in-owner-requires : goal.owner_in-owner-requires
-owner_in-owner-requires c = (
+pub take_over_first-requires : goal.take_over_first-requires
+take_over_first-requires c = (
   _,
   record_begins _ c.len-len.result (omega arith)
       (take_rest c.deref.result.now c.len-len.result ∙ ap (λ (l : List ℕ). drop c.len-len.result l) c.deref.ensures.value) c.in-Ok.ensures.ok,
@@ -28,10 +28,10 @@ owner_in-owner-requires c = (
 pub returns-in-Ok-clause-ok : goal.returns-in-Ok-clause-ok
 returns-in-Ok-clause-ok c =
     record_handed (c.of_row-scanner.ensures.origin ∙ c.as_ref-origin.ensures.value) (ap (row_of c.args.blank_led) c.of_row-scanner.ensures.tokens)
-    c.in-Ok.ensures.ok
-    (c.owner_in-owner.ensures _ (record_begins _ c.len-len.result (omega arith)
+    c.in-Ok.ensures.ok refl
+    (c.take_over_first.ensures _ (record_begins _ c.len-len.result (omega arith)
     (take_rest c.deref.result.now c.len-len.result ∙ ap (λ (l : List ℕ). drop c.len-len.result l) c.deref.ensures.value)
-    c.in-Ok.ensures.ok)) c.take_over.ensures
+    c.in-Ok.ensures.ok))
 
 pub returns-in-Err-clause-err : goal.returns-in-Err-clause-err
 returns-in-Err-clause-err c = λ real entry after is.
