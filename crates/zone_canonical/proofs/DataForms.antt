@@ -1,13 +1,15 @@
 -- Octets of data have the canonical form of its fields.
 use Rattle.std.proofs.Common.{◌≡◌, ℕ, Bool, true, false, List, [], ◌∷◌, ◌++◌, length, take, drop, map, refl, sym, ap, ◌∙◌, subst, append-nil}
-use Rattle.std.specs.Prelude.{Some, None, ◌==◌, ◌&&◌, not}
+use Rattle.std.specs.Prelude.{Option, Some, None, ◌==◌, ◌&&◌, not}
 use Rattle.std.specs.Prelude.{if◌then◌else◌}
 use Rattle.std.specs.List.{AllByRecursion, list_all}
 use Rattle.std.proofs.lemmas.Bool.{and_parts}
 use Rattle.std.proofs.Math.Seq.{take-append_seam, drop-append_seam}
+use Rattle.std.proofs.lemmas.List.{take-append-drop}
+use Rattle.std.specs.Char.{to_ascii_lowercase}
 use Rattle.dns_rdata.specs.Fields as fields
 use Rattle.dns_rdata.specs.Fields.{Kind, Field, kind_of, kinds_in, kinds_of, table, IsField, IsRow, IsData, field_octets, octets, lowered, canonical_octets}
-use Rattle.dns_rdata.specs.OctetsForm.{IsCanonicalData, typed, unknown, form_of_kind, is_last, len_in}
+use Rattle.dns_rdata.specs.OctetsForm.{IsCanonicalData, typed, unknown, form_of_kind, is_last, is_name, len_in}
 use Rattle.dns_canonical_form.proofs.OctetsForms.{field_long, last_long, lowered_form}
 use Rattle.zone_canonical.specs.DataForm.{data_form, fields_form, form_by}
 
@@ -61,3 +63,26 @@ data_formed rtype data' (fields.typed row is are) =
     typed row is are
     ((λ i. form_by (is.kinds i) (are i)) ∙ row_form row is.each (in_table table refl rtype (map kind_of row) is.kinds))
 data_formed rtype data' (fields.unknown none short) = unknown none (ap (λ kinds. form_by kinds data') none)
+
+-- whether no field of these kinds is a name
+abbrev pub is_plain : Option (List Kind) → Bool
+is_plain None = true
+is_plain (Some kinds) = list_all (λ kind. not (is_name kind)) kinds
+
+plain_fields : (kinds : List Kind) (data' : List ℕ) → list_all (λ kind. not (is_name kind)) kinds ≡ true → fields_form kinds data' ≡ data'
+plain_fields [] data' plain = refl
+plain_fields (kind ∷ kinds) data' plain =
+    let both = and_parts (not (is_name kind)) (list_all (λ kind. not (is_name kind)) kinds) plain in
+    let first = take (len_in kind data') data' in
+    let rest = drop (len_in kind data') data' in
+    let same : form_of_kind kind first ≡ first = ap (λ b. if b then map to_ascii_lowercase first else first) (not_last (is_name kind) both.0) in
+    ap (λ l. l ++ fields_form kinds rest) same ∙ ap (λ l. first ++ l) (plain_fields kinds rest both.1) ∙ take-append-drop (len_in kind data') data'
+
+plain_by : (kinds : Option (List Kind)) (data' : List ℕ) → is_plain kinds ≡ true → form_by kinds data' ≡ data'
+plain_by None data' plain = refl
+plain_by (Some kinds) data' plain = plain_fields kinds data' plain
+
+-- data with no names is in canonical form
+pub plain_data : (rtype known : ℕ) → rtype ≡ known → is_plain (kinds_of known) ≡ true → (data' : List ℕ) → data_form rtype data' ≡ data'
+unfolding data_form
+plain_data rtype known same plain data' = ap (λ n. form_by (kinds_of n) data') same ∙ plain_by (kinds_of known) data' plain

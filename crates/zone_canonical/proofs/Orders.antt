@@ -1,8 +1,9 @@
 -- Records in canonical form are compared part by part, and entries by key first.
-use Rattle.std.proofs.Common.{◌≡◌, ◌<◌, ℕ, List, refl, sym, ap, ◌∙◌}
+use Rattle.std.proofs.Common.{◌≡◌, ◌<◌, ℕ, Bool, true, false, nat_eq, List, refl, sym, ap, ◌∙◌}
 use Rattle.std.specs.Prelude.{reverse}
 use Rattle.std.specs.Cmp.Lexicographic.{slice_cmp}
-use Rattle.std.specs.Ordering.{nat_cmp, ordering_then, ordering_reverse, is_eq}
+use Rattle.std.specs.Cmp.{unsigned_tied}
+use Rattle.std.specs.Ordering.{nat_cmp, ordering_then, ordering_reverse, is_eq, eq_by_cmp}
 use Rattle.std.specs.declared.cmp.Ordering.{Ordering}
 use Rattle.std.specs.declared.cmp.Ordering.TheVariants.{Less, Equal, Greater}
 use Rattle.std.proofs.lemmas.Cmp.{ranked}
@@ -105,3 +106,15 @@ tagged_order apex one other =
 -- the key of an owner in lower case is the owner's
 pub key_low : (apex owner : List (List ℕ)) → key_of apex (low owner) ≡ key_of apex owner
 key_low apex owner = ap (λ l. key_from (reverse (low apex)) (reverse l)) (low-low owner)
+
+first_unlike : (first rest : Ordering) → is_eq first ≡ false → false ≡ is_eq (ordering_then first rest)
+first_unlike Less rest unlike = refl
+first_unlike Equal rest unlike = absurd (let e : true ≡ false = unlike in cc)
+first_unlike Greater rest unlike = refl
+
+-- entries with different keys are not equal
+pub unlike_keys : (one other : Keyed) (same : Bool) → same ≡ false → same ≡ nat_eq one.key other.key → same ≡ eq_by_cmp keyed_cmp one other
+unfolding keyed_cmp
+unlike_keys one other same unlike is =
+    unlike
+    ∙ first_unlike (nat_cmp one.key other.key) (canonical_cmp one.form other.form) (unsigned_tied one.key other.key ∙ sym is ∙ unlike)

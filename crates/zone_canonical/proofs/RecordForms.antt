@@ -64,15 +64,22 @@ middle_long : (r : Record) (whole : List ℕ) → whole ≡ record_octets r
 middle_long r whole is =
     omega (arith, ap (length {A = ℕ}) (is ∙ in_parts r), length-append (wire r.owner) (middle_of r ++ r.rdata), length-append (middle_of r) r.rdata)
 
-middle_found : (r : Record) (whole : List ℕ) (start end : ℕ) → whole ≡ record_octets r → start ≡ length (wire r.owner)
-    → end ≡ length whole - length r.rdata → take (end - start) (drop start whole) ≡ middle_of r
-middle_found r whole start end is from to =
-    let count : end - start ≡ length (middle_of r) = omega (arith, middle_long r whole is) in
-    ap (λ n. take n (drop start whole)) count
-    ∙ ap (λ n. take (length (middle_of r)) (drop n whole)) from
-    ∙ ap (λ l. take (length (middle_of r)) (drop (length (wire r.owner)) l)) (is ∙ in_parts r)
-    ∙ ap (take (length (middle_of r))) (drop-append_seam (wire r.owner) (middle_of r ++ r.rdata))
-    ∙ take-append_seam (middle_of r) r.rdata
+-- what is before the data
+head_found : (r : Record) (whole : List ℕ) (end : ℕ) → whole ≡ record_octets r → end ≡ length whole - length r.rdata
+    → take end whole ≡ wire r.owner ++ middle_of r
+head_found r whole end is to =
+    let head = wire r.owner ++ middle_of r in
+    let long : end ≡ length head = omega (arith, middle_long r whole is, length-append (wire r.owner) (middle_of r)) in
+    ap (λ n. take n whole) long
+    ∙ ap (take (length head)) (is ∙ in_parts r ∙ sym (append_assoc (wire r.owner) (middle_of r) r.rdata))
+    ∙ take-append_seam head r.rdata
+
+-- octets that begin with a name, with this in lower case
+name_lowered : (name : List (List ℕ)) (source rest : List ℕ) (start : ℕ) → source ≡ wire name ++ rest → start ≡ length (wire name)
+    → map to_ascii_lowercase (take start source) ++ drop start source ≡ map to_ascii_lowercase (wire name) ++ rest
+name_lowered name source rest start is from =
+    (λ i. map to_ascii_lowercase (take (from i) (is i)) ++ drop (from i) (is i))
+    ∙ (λ i. map to_ascii_lowercase (take-append_seam (wire name) rest i) ++ drop-append_seam (wire name) rest i)
 
 -- the owner in lower case, what follows it, and the data in canonical form
 form_written : (r : Record) (old : List ℕ) → HasCanonicalForm r
@@ -88,18 +95,32 @@ form_written r old is =
     ∙ ap (λ l. old ++ (wire (low r.owner) ++ (l ++ form))) long
     ∙ ap (λ l. old ++ l) (sym (in_parts (form_of r)))
 
--- the same, appended one after another
-pub form_appended : (r : Record) (name : List (List ℕ)) (old whole octets data' lowered extended new : List ℕ) (start : ℕ) → HasCanonicalForm r
-    → whole ≡ record_octets r → name ≡ r.owner → octets ≡ wire name → start ≡ length (wire name) → data' ≡ r.rdata
-    → lowered ≡ old ++ map to_ascii_lowercase octets
-    → extended ≡ lowered ++ take ((length whole - length data') - start) (drop start whole)
+-- the same, appended at once, where the data is in canonical form
+pub plain_appended : (r : Record) (name : List (List ℕ)) (old whole new : List ℕ) (start : ℕ) → HasCanonicalForm r
+    → whole ≡ record_octets r → name ≡ r.owner → start ≡ length (wire name) → data_form r.rtype r.rdata ≡ r.rdata
+    → new ≡ old ++ (map to_ascii_lowercase (take start whole) ++ drop start whole) → new ≡ old ++ record_octets (form_of r)
+plain_appended r name old whole new start is whole_is name_is start_is plain new_is =
+    let owner = map to_ascii_lowercase (wire r.owner) in
+    new_is
+    ∙ ap (λ l. old ++ l)
+    (name_lowered r.owner whole (middle_of r ++ r.rdata) start (whole_is ∙ in_parts r) (start_is ∙ ap (λ (n : List (List ℕ)). length (wire n)) name_is))
+    ∙ sym (append_assoc old owner (middle_of r ++ r.rdata))
+    ∙ sym (append_assoc (old ++ owner) (middle_of r) r.rdata)
+    ∙ ap (λ l. ((old ++ owner) ++ middle_of r) ++ l) (sym plain)
+    ∙ form_written r old is
+
+-- the same, appended before the data and then with it
+pub form_appended : (r : Record) (name : List (List ℕ)) (old whole data' extended new : List ℕ) (start : ℕ) → HasCanonicalForm r
+    → whole ≡ record_octets r → name ≡ r.owner → start ≡ length (wire name) → data' ≡ r.rdata
+    → extended ≡ old ++ (map to_ascii_lowercase (take start (take (length whole - length data') whole)) ++ drop start (take (length whole - length data') whole))
     → new ≡ extended ++ data_form r.rtype r.rdata → new ≡ old ++ record_octets (form_of r)
-form_appended r name old whole octets data' lowered extended new start is whole_is name_is octets_is start_is data_is lowered_is extended_is new_is =
+form_appended r name old whole data' extended new start is whole_is name_is start_is data_is extended_is new_is =
     let form = data_form r.rtype r.rdata in
-    let middle = middle_found r whole start (length whole - length data') whole_is (start_is ∙ ap (λ (n : List (List ℕ)). length (wire n)) name_is)
-    (ap (λ (l : List ℕ). length whole - length l) data_is) in
+    let owner = map to_ascii_lowercase (wire r.owner) in
+    let head = head_found r whole (length whole - length data') whole_is (ap (λ (l : List ℕ). length whole - length l) data_is) in
     new_is
     ∙ ap (λ l. l ++ form) extended_is
-    ∙ (λ i. (lowered_is i ++ middle i) ++ form)
-    ∙ ap (λ (l : List ℕ). ((old ++ map to_ascii_lowercase l) ++ middle_of r) ++ form) (octets_is ∙ ap wire name_is)
+    ∙ ap (λ l. (old ++ l) ++ form)
+    (name_lowered r.owner (take (length whole - length data') whole) (middle_of r) start head (start_is ∙ ap (λ (n : List (List ℕ)). length (wire n)) name_is))
+    ∙ ap (λ l. l ++ form) (sym (append_assoc old owner (middle_of r)))
     ∙ form_written r old is

@@ -4,7 +4,7 @@ ghost use Rattle.std.proofs.Common.{refl};
 ghost use Rattle.std.specs.Cmp.{partial_equiv_from_equiv, partial_order_from_total, partial_order_from_own_ties, eq_by_cmp_equiv};
 ghost use Rattle.std.specs.Ordering.{as_partial_cmp, eq_by_cmp};
 ghost use Rattle.zone_records.specs.MessageRecord.{IsRecord};
-ghost use Rattle.zone_canonical.specs.Canonical.{HasCanonicalForm};
+ghost use Rattle.zone_canonical.specs.Canonical.{HasCanonicalForm, canonical_cmp};
 ghost use Rattle.zone_canonical.specs.Form.{form_of};
 ghost use Rattle.zone_canonical.specs.Keyed.{form_octets, keyed_cmp, keyed_total, with_key};
 
@@ -58,6 +58,14 @@ impl<'a> Entry<'a> {
         Record::from_octets(self.octets)
     }
 
+    /// Compares the records in canonical form. Few comparisons come to this, so it is not inlined.
+    #[inline(never)]
+    fn cmp_forms(&self, other: &Entry<'_>) -> Ordering
+        ensures { result ≡ canonical_cmp self.now.form other.now.form }
+    {
+        cmp_forms(&self.stored(), &other.stored())
+    }
+
     /// Returns the length of the record in octets.
     pub(crate) fn len(&self) -> usize {
         self.octets.len()
@@ -77,8 +85,9 @@ impl<'a> PartialEq for Entry<'a> {
 
     ghost laws = { partial_equiv_from_equiv (eq_by_cmp_equiv keyed_total) };
 
+    #[inline(always)]
     fn eq(&self, other: &Self) -> bool {
-        self.cmp(other).is_eq()
+        self.key == other.key && self.cmp_forms(other).is_eq()
     }
 }
 
@@ -91,6 +100,7 @@ impl<'a> PartialOrd for Entry<'a> {
 
     ghost laws = { partial_order_from_own_ties (partial_order_from_total keyed_total) (λ _ _. refl) };
 
+    #[inline(always)]
     fn partial_cmp(&self, other: &Self) -> Option<Ordering> {
         Some(self.cmp(other))
     }
@@ -106,9 +116,10 @@ impl<'a> Ord for Entry<'a> {
 
     ghost matches_eq = { λ _ _. refl };
 
+    #[inline(always)]
     fn cmp(&self, other: &Self) -> Ordering {
         match self.key.cmp(&other.key) {
-            Ordering::Equal => cmp_forms(&self.stored(), &other.stored()),
+            Ordering::Equal => self.cmp_forms(other),
             unequal => unequal,
         }
     }

@@ -1,13 +1,14 @@
 //! Records in canonical form (RFC 4034 6.2): compared, and appended as octets. They are read where they are stored,
 //! without parsing.
-ghost use Rattle.std.specs.Prelude.{◌≡◌, ◌++◌, OnOk, map};
+ghost use Rattle.std.specs.Prelude.{◌≡◌, ◌≤◌, ◌++◌, ℕ, List, IsTrue, OnOk, length, take, drop, map};
 ghost use Rattle.std.specs.Char.{to_ascii_lowercase};
 ghost use Rattle.zone_records.specs.MessageRecord.{record_octets};
 ghost use Rattle.dns_wire.specs.Order.{labels_order};
 ghost use Rattle.zone_canonical.specs.Canonical.{HasCanonicalForm, canonical_cmp};
+ghost use Rattle.zone_canonical.specs.DataForm.{data_form};
 ghost use Rattle.zone_canonical.specs.Form.{form_of};
 
-use dns_name::{Name, ToName};
+use dns_name::{Name, Rtype, ToName};
 use dns_rdata::{append_canonical_data, canonical_data_cmp};
 use std::alloc::AllocError;
 use std::cmp::Ordering;
@@ -51,19 +52,32 @@ pub(crate) fn append_form(record: &Record<'_>, octets: &mut Vec<u8>) -> Result<(
 {
     let whole = record.as_octets();
     let owner = record.owner();
-    let data = record.data();
-    append_lowered(owner.as_slice(), octets)?;
+    if has_no_names(record.rtype()) {
+        return append_lowered(whole, owner.len(), octets);
+    }
     // Data in canonical form has the same length, so RDLENGTH stays too.
-    octets.extend_from_slice(&whole[owner.len()..whole.len() - data.len()])?;
+    let data = record.data();
+    append_lowered(&whole[..whole.len() - data.len()], owner.len(), octets)?;
     append_canonical_data(record.rtype(), data, octets)
 }
 
-/// Appends octets with ASCII letters in lower case. Fails if out of memory.
-fn append_lowered(name: &[u8], octets: &mut Vec<u8>) -> Result<(), AllocError>
-    ensures { OnOk result (octets.new.items ≡ octets.old.items ++ map to_ascii_lowercase name.now) }
+/// Returns whether the type is one of the commonest whose data has no names, so that it is in canonical form.
+fn has_no_names(rtype: Rtype) -> bool
+    ensures { IsTrue result → (rdata : List ℕ) → data_form rtype rdata ≡ rdata }
+{
+    matches!(rtype, Rtype::A | Rtype::AAAA | Rtype::TXT | Rtype::DS)
+}
+
+/// Appends octets that begin with a name of this length, with its ASCII letters in lower case. Fails if out of memory.
+/// It is called once per record of a zone, so it is inlined.
+#[inline(always)]
+fn append_lowered(source: &[u8], name_len: usize, octets: &mut Vec<u8>) -> Result<(), AllocError>
+    requires { name_len ≤ length source.now }
+    ensures { OnOk result (octets.new.items
+        ≡ octets.old.items ++ (map to_ascii_lowercase (take name_len source.now) ++ drop name_len source.now)) }
 {
     let start = octets.len();
-    octets.extend_from_slice(name)?;
-    octets.as_mut_slice()[start..].make_ascii_lowercase();
+    octets.extend_from_slice(source)?;
+    octets.as_mut_slice()[start..start + name_len].make_ascii_lowercase();
     Ok(())
 }

@@ -1,13 +1,24 @@
+use Rattle.std.proofs.Common.{◌≡◌, sym, ap, ◌∙◌, rules}
 use Rattle.std.proofs.lemmas.Result.{on_ok_weaker}
-use Rattle.zone_canonical.proofs.RecordForms.{form_appended, read_formed}
+use Rattle.zone_canonical.specs.DataForm.{data_form}
+use Rattle.zone_canonical.proofs.RecordForms.{form_appended, plain_appended, read_formed}
 use Rattle.zone_canonical.proofs.form.append_form.Goals as goal
+
+pub returns-then-has_no_names : goal.returns-then-has_no_names
+returns-then-has_no_names c =
+    let r = c.args.record.now in
+    on_ok_weaker c.append_lowered.result
+    (λ appended. plain_appended r c.owner-owner.result c.args.octets.now.items c.as_octets-whole.result.now c.append_lowered.new.octets.items
+    c.len.result c.requires c.as_octets-whole.ensures.octets c.owner-owner.ensures.owner c.len.ensures.octets
+    (ap (λ n. data_form n r.rdata) (sym c.rtype.ensures) ∙ c.has_no_names.ensures (search rules) r.rdata) appended)
+    c.append_lowered.ensures
 
 pub returns : goal.returns
 returns c =
     on_ok_weaker c.append_canonical_data.result
-    (λ appended. form_appended c.args.record.now c.owner-owner.result c.args.octets.now.items c.as_octets-whole.result.now c.as_slice.result.now
-    c.data-data.result.now c.append_lowered.new.octets.items c.extend_from_slice.new.self.items c.append_canonical_data.new.target.items
-    c.len.result c.requires c.as_octets-whole.ensures.octets c.owner-owner.ensures.owner c.as_slice.ensures.octets c.len.ensures.octets
-    c.data-data.ensures c.in_ok-append_lowered.ensures c.in_ok-extend_from_slice.ensures.items appended)
+    (λ appended. form_appended c.args.record.now c.owner-owner.result c.args.octets.now.items c.as_octets-whole.result.now
+    c.data-data.result.now c.append_lowered-2.new.octets.items c.append_canonical_data.new.target.items
+    c.len-2.result c.requires c.as_octets-whole.ensures.octets c.owner-owner.ensures.owner c.len-2.ensures.octets
+    c.data-data.ensures c.in_ok-append_lowered.ensures appended)
     (c.append_canonical_data.ensures _
-    (read_formed c.args.record.now c.rtype.result c.data-data.result.now c.rtype.ensures c.data-data.ensures c.requires))
+    (read_formed c.args.record.now c.rtype-2.result c.data-data.result.now c.rtype-2.ensures c.data-data.ensures c.requires))

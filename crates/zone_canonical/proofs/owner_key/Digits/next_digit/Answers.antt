@@ -4,7 +4,7 @@ use Rattle.zone_canonical.proofs.owner_key.Digits.next_digit.Goals as goal
 
 pub returns-in-Some-clause-digit : goal.returns-in-Some-clause-digit
 returns-in-Some-clause-digit c = λ left.
-    digit_inside c.in-Some.octet.now c.from.result left _ c.in-Some.rest.now _ c.in-Some.ensures.cases.0 (c.from.ensures ∙ c.to_ascii_lowercase.ensures.value) (omega arith)
+    digit_inside c.in-Some.octet.now c.digit_of.result left _ c.in-Some.rest.now _ c.in-Some.ensures.cases.0 c.digit_of.ensures.digit c.digit_of.ensures.within
 
 pub returns-in-None-clause-digit : goal.returns-in-None-clause-digit
 returns-in-None-clause-digit c = λ left.
