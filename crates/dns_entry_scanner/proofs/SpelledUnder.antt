@@ -1,20 +1,21 @@
 -- The name of a text under an origin, once its labels are read.
-use Rattle.std.proofs.Common.{◌≡◌, ℕ, ◌<◌, List, [], ◌∷◌, ◌++◌, length, inr, refl, sym, ◌∙◌, ap, subst, arith}
+use Rattle.std.proofs.Common.{◌≡◌, ℕ, ◌+◌, ◌<◌, ◌≤◌, List, [], ◌∷◌, ◌++◌, length, take, inr, refl, sym, ◌∙◌, ap, subst, arith}
 use Rattle.std.specs.Prelude.{Option, Some, None}
 use Rattle.std.specs.List.{AllByRecursion}
-use Rattle.dns_label.specs.Name.{IsLabel, IsName}
-use Rattle.dns_label.specs.NameText.{HasParts, IsAbsoluteText, IsRelativeText}
+use Rattle.dns_label.specs.Name.{IsLabel, IsName, wire}
+use Rattle.dns_label.specs.NameText.{IsAbsoluteText, IsRelativeText}
 use Rattle.dns_label.specs.NameText.IsAbsoluteText.{root}
 use Rattle.dns_label.specs.NameText.IsNameText.{absolute as absolute_text, relative as relative_text}
 use Rattle.dns_wire.specs.Draft.{Holds, IsReadable, IsReadAs}
 use Rattle.dns_wire.specs.declared.text.draft.NameDraft.{NameDraft}
-use Rattle.dns_wire.proofs.Drafts.{draft-none, draft-some, draft-wire, holds_one}
-use Rattle.dns_wire.proofs.Texts.{whole-absolute, whole-ok, open_label}
+use Rattle.dns_wire.proofs.Drafts.{draft-none, draft-some}
+use Rattle.dns_wire.proofs.Texts.{whole-absolute, open_label}
 use Rattle.dns_wire.proofs.Wire.{length-wire_is, length-wire-append}
 use Rattle.dns_flat.proofs.Chains.{never_rooted}
+use Rattle.dns_entry_scanner.specs.EndedName.{IsEndedBy}
 use Rattle.dns_entry_scanner.specs.NameInText.{SpellsUnder}
 use Rattle.dns_entry_scanner.specs.NameInText.SpellsUnder.{at, absolute, relative}
-use Rattle.dns_entry_scanner.proofs.ChainedNames.{held_name}
+use Rattle.dns_entry_scanner.proofs.ChainedNames.{held_name, held_one, origin_fits}
 
 -- the labels before an origin
 front_name : (labels origin : List (List ℕ)) → AllByRecursion IsLabel labels → IsName (labels ++ origin) → IsName labels
@@ -56,20 +57,14 @@ never_relative draft read labels none is =
     let P : List (List ℕ) → Type 0 = λ l. AllByRecursion IsLabel l in
     never_rooted read.done (subst P (read.only labels is.parts ∙ ap (λ b. read.done ++ b ∷ []) none) is.each)
 
-pub dotted_spelled : {origin : Option (List (List ℕ))} (text : List ℕ) (draft : NameDraft) (name : List (List ℕ))
-    → (text ≡ 46 ∷ [] → ⊥) → (read : IsReadAs text draft) → read.begun ≡ [] → Holds draft name [] → IsName name
-    → 0 < length name → SpellsUnder origin text name
-dotted_spelled text draft name no_dot read none holds is_name some =
-    absolute (whole-ok IsAbsoluteText text draft name (whole-absolute text draft no_dot read none) is_name holds some)
-
-pub dotted_some : {origin : Option (List (List ℕ))} (text : List ℕ) (draft : NameDraft) → (text ≡ 46 ∷ [] → ⊥)
-    → (read : IsReadAs text draft) → read.begun ≡ [] → (draft.len ≡ 1 → ⊥) → (name : List (List ℕ)) × SpellsUnder origin text name
-dotted_some text draft no_dot read none some =
+pub dotted_ended : {known : Option (List (List ℕ))} (text : List ℕ) (draft : NameDraft) → (text ≡ 46 ∷ [] → ⊥)
+    → (read : IsReadAs text draft) → read.begun ≡ [] → (draft.len ≡ 1 → ⊥) → IsEndedBy known text draft None
+dotted_ended text draft no_dot read none some =
     let whole = whole-absolute text draft no_dot read none in
     let all = draft.whole in
     let few = draft.few in
     let more = draft-some draft.octets draft.len whole.done (omega arith) some whole.holds.written in
-    (whole.done, absolute (whole.spells more (held_name draft whole.done whole.holds)))
+    (some, whole.done, whole.holds, absolute (whole.spells more (held_name draft whole.done whole.holds)))
 
 pub dotted_none : {origin : Option (List (List ℕ))} {text : List ℕ} {name : List (List ℕ)} (draft : NameDraft)
     → (text ≡ 64 ∷ [] → ⊥) → (text ≡ 46 ∷ [] → ⊥) → (read : IsReadAs text draft) → read.begun ≡ [] → draft.len ≡ 1
@@ -92,16 +87,19 @@ open_none draft none no_dot read some at = cc
 open_none {text = text} {name = name} draft none no_dot read some (absolute is) = open_label text draft no_dot read some name is
 open_none draft none no_dot read some (relative other is is_name) = cc
 
-pub open_spelled : {known : Option (List (List ℕ))} (text : List ℕ) (draft ended : NameDraft) (labels origin : List (List ℕ))
+pub open_ended : {known : Option (List (List ℕ))} (text : List ℕ) (draft ended : NameDraft) (origin : List (List ℕ))
     → known ≡ Some origin → (text ≡ 64 ∷ [] → ⊥) → (read : IsReadAs text draft)
-    → Holds ended (read.done ++ read.begun ∷ []) [] → Holds ended labels [] → IsName (labels ++ origin)
-    → SpellsUnder known text (labels ++ origin)
-open_spelled text draft ended labels origin is differs read holds held is_name =
-    let same : labels ≡ read.done ++ read.begun ∷ [] =
-    holds_one ended _ labels holds (sym (draft-wire ended.octets ended.len labels held.written)) in
-    let P : Option (List (List ℕ)) → Type 0 = λ o. SpellsUnder o text (labels ++ origin) in
-    let Q : List (List ℕ) → Type 0 = λ l. HasParts text l in
-    subst P (sym is) (relative differs (record { parts = subst Q (sym same) read.has; each = held.labels }) is_name)
+    → Holds ended (read.done ++ read.begun ∷ []) [] → IsName origin
+    → length (take ended.start ended.octets) + length (wire origin) ≤ 255 → IsEndedBy known text ended (Some origin)
+open_ended text draft ended origin is differs read holds is_origin few =
+    let labels : List (List ℕ) = read.done ++ read.begun ∷ [] in
+    let is_name = origin_fits ended labels origin holds is_origin few in
+    let P : Option (List (List ℕ)) → Type 0 = λ o. SpellsUnder o text (labels ++ origin) in (
+      labels,
+      holds,
+      is_name,
+      subst P (sym is) (relative differs (record { parts = read.has; each = holds.labels }) is_name),
+    )
 
 pub open_long : {known : Option (List (List ℕ))} {text : List ℕ} {name : List (List ℕ)} (draft : NameDraft) (origin : List (List ℕ))
     → known ≡ Some origin → (text ≡ 64 ∷ [] → ⊥) → (text ≡ 46 ∷ [] → ⊥) → (read : IsReadAs text draft) → 0 < length read.begun
@@ -119,3 +117,14 @@ open_long draft origin is differs no_dot read some long (relative {origin = othe
 pub absolute_name : {text : List ℕ} {name : List (List ℕ)} → IsAbsoluteText text name → IsName name
 absolute_name (IsAbsoluteText.root is) = record { labels = tt; short = omega arith }
 absolute_name (IsAbsoluteText.labels some parts is_name) = is_name
+
+-- the names of labels that are the same octets
+pub root_behind : {known : Option (List (List ℕ))} {text : List ℕ} (draft : NameDraft) (name : List (List ℕ)) → IsEndedBy known text draft None
+    → Holds draft name [] → SpellsUnder known text name
+root_behind {known = known} {text = text} draft name ended holds =
+    subst (λ (n : List (List ℕ)). SpellsUnder known text n) (held_one draft ended.1 name ended.2 holds) ended.3
+
+pub origin_behind : {known : Option (List (List ℕ))} {text : List ℕ} (draft : NameDraft) (labels origin : List (List ℕ))
+    → IsEndedBy known text draft (Some origin) → Holds draft labels [] → SpellsUnder known text (labels ++ origin)
+origin_behind {known = known} {text = text} draft labels origin ended holds =
+    subst (λ (n : List (List ℕ)). SpellsUnder known text (n ++ origin)) (held_one draft ended.0 labels ended.1 holds) ended.3

@@ -9,6 +9,7 @@ pub mod RowReader
 pub mod BegunRow
 pub mod RowFound
 pub mod NameInText
+pub mod EndedName
 pub mod EntryError
 pub mod Gap
 pub mod RowToken

@@ -1,25 +1,27 @@
 //! Names of tokens, appended as octets without a value for them.
 ghost use Rattle.std.specs.List.{list_all};
-ghost use Rattle.std.specs.Prelude.{◌≡◌, ◌≢◌, ◌↔◌, ◌+◌, ◌<◌, ◌≤◌, ◌++◌, ◌∷◌, [], List, ℕ, true, false, length, take, option_copied, IsTrue, IfErr, OnOk, OnErr};
+ghost use Rattle.std.specs.Prelude.{◌≡◌, ◌≢◌, ◌↔◌, ◌+◌, ◌<◌, ◌≤◌, ◌++◌, ◌∷◌, [], List, ℕ, Some, true, false, length, take, option_copied, IsTrue, IfErr, OnOk, OnErr};
 ghost use Rattle.dns_label.specs.Name.{IsName, wire};
 ghost use Rattle.dns_label.specs.NameText.{IsAbsoluteText};
+ghost use Rattle.dns_wire.specs.Draft.{IsReadBy};
 ghost use Rattle.dns_wire.specs.Unescaped.{is_unescaped};
 ghost use Rattle.dns_entry_scanner.specs.AppendedName.{HasBehind, OneLabelUnder, is_no_dot};
 ghost use Rattle.dns_entry_scanner.specs.EntryError.{is_memory};
 ghost use Rattle.dns_entry_scanner.specs.NameInText.{SpellsUnder};
 
+use crate::EntryError;
 use crate::dotted_name::{LANES, OtherThanDot, append_dotted_name, append_longer};
 use crate::row_token::RowToken;
-use crate::{EntryError, InlineName, TextName};
+use crate::text_name::{end_labels, finished_octets, is_at_sign, known_origin};
 use dns_name::{Composer, Name, run_end};
-use std::alloc::{AllocError, Global};
+use dns_wire::text::NameDraft;
+use std::alloc::AllocError;
 
 /// Appends the octets of the name that a token's text spells under the origin, if one is known, and `room` octets of any value
 /// behind them. `TextName::scan_name` says which name this is.
 ///
 /// Fails as that call does, and then appends nothing.
 pub(crate) fn append_name(
-    alloc: Global,
     token: RowToken<'_>,
     origin: Option<&Name<Vec<u8>>>,
     room: usize,
@@ -37,14 +39,13 @@ pub(crate) fn append_name(
     if append_label(token, origin, room, octets) {
         return Ok(());
     }
-    append_spelled(alloc, token.text, origin, room, octets)
+    append_spelled(token.text, origin, room, octets)
 }
 
-/// The same for any text. It spells the name into an array first. Clearing that array takes time, so the fast cases
-/// avoid this call.
+/// The same for any text. The name is read octet by octet into a draft first. Clearing the draft takes time, so the fast
+/// cases avoid this call.
 #[inline(never)]
 fn append_spelled(
-    alloc: Global,
     text: &[u8],
     origin: Option<&Name<Vec<u8>>>,
     room: usize,
@@ -56,14 +57,76 @@ fn append_spelled(
     ensures err { IfErr result (λ error. is_memory error ≡ false → (name : List (List ℕ)) → SpellsUnder (option_copied origin.entry) text.now name → ⊥) }
     ensures same { OnErr result (octets.new.items ≡ octets.old.items) }
 {
-    let name: InlineName = TextName::scan_name(alloc, text, origin)?;
+    if is_at_sign(text) {
+        let origin = known_origin(origin)?;
+        return Ok(append_both(origin.as_slice(), &[], room, octets)?);
+    }
+    match &mut NameDraft::read_text(text) {
+        Ok(Some(draft)) => append_read(draft, origin, room, octets),
+        Ok(None) => Ok(append_both(&[0], &[], room, octets)?),
+        Err(_) => Err(EntryError::Custom("invalid name")),
+    }
+}
+
+/// Appends the octets of the name whose labels were read from a text other than `@`, completed with the origin if it is
+/// relative, and `room` octets of any value behind them. Ends the last label.
+///
+/// Fails with `Custom` if the text spells no name under the origin, and with `OutOfMemory` if out of memory. It then
+/// appends nothing.
+fn append_read(
+    draft: &mut NameDraft,
+    origin: Option<&Name<Vec<u8>>>,
+    room: usize,
+    octets: &mut Vec<u8>,
+) -> Result<(), EntryError>
+    requires read { (text : List ℕ) × (text ≢ 64 ∷ []) × IsReadBy text (Some draft.old) }
+    requires room { room ≤ 255 }
+    ensures ok { OnOk result ((text : List ℕ) → text ≢ 64 ∷ [] → IsReadBy text (Some draft.old) → (name : List (List ℕ))
+        × SpellsUnder (option_copied origin.entry) text name × IsName name × HasBehind room (octets.old.items ++ wire name) octets.new.items) }
+    ensures err { IfErr result (λ error. is_memory error ≡ false → (text : List ℕ) (name : List (List ℕ)) → text ≢ 64 ∷ [] → IsReadBy text (Some draft.old)
+        → SpellsUnder (option_copied origin.entry) text name → ⊥) }
+    ensures same { OnErr result (octets.new.items ≡ octets.old.items) }
+{
+    match end_labels(draft, origin)? {
+        None => Ok(append_both(finished_octets(draft), &[], room, octets)?),
+        Some(origin) => Ok(append_both(draft.labels(), origin.as_slice(), room, octets)?),
+    }
+}
+
+/// Appends the octets of both and `room` octets of any value. If out of memory, fails and then appends nothing.
+fn append_both(
+    front: &[u8],
+    behind: &[u8],
+    room: usize,
+    octets: &mut Vec<u8>,
+) -> Result<(), AllocError>
+    requires short { length behind.now ≤ 255 }
+    requires room { room ≤ 255 }
+    ensures ok { OnOk result (HasBehind room (octets.old.items ++ (front.now ++ behind.now)) octets.new.items) }
+    ensures same { OnErr result (octets.new.items ≡ octets.old.items) }
+{
     let len = octets.len();
-    let wire = name.as_slice();
-    let appended = append_longer(wire, wire, room, octets);
+    let appended = append_parts(front, behind, room, octets);
     if appended.is_err() {
         octets.truncate(len);
-        return Err(EntryError::OutOfMemory);
     }
+    appended
+}
+
+/// The same, but if out of memory, it may have appended a part of them.
+fn append_parts(
+    front: &[u8],
+    behind: &[u8],
+    room: usize,
+    octets: &mut Vec<u8>,
+) -> Result<(), AllocError>
+    requires short { length behind.now ≤ 255 }
+    requires room { room ≤ 255 }
+    ensures ok { OnOk result (HasBehind room (octets.old.items ++ (front.now ++ behind.now)) octets.new.items) }
+    ensures more { take (length octets.old.items) octets.new.items ≡ octets.old.items }
+{
+    append_longer(front, front, behind.len() + room, octets)?;
+    octets.patch(octets.len() - room - behind.len(), behind);
     Ok(())
 }
 

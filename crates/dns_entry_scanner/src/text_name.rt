@@ -1,7 +1,8 @@
 //! Names that the texts of tokens spell (RFC 1035 5.1), in any storage.
-ghost use Rattle.std.specs.Prelude.{◌≡◌, ◌<◌, ◌↔◌, ◌∷◌, ◌++◌, List, ℕ, [], true, false, length, option_copied, IfOk, IfErr, IsTrue};
+ghost use Rattle.std.specs.Prelude.{◌≡◌, ◌≢◌, ◌<◌, ◌↔◌, ◌∷◌, ◌++◌, List, ℕ, [], Some, None, true, false, length, option_copied, IfOk, IfErr, IsTrue, OnErr};
 ghost use Rattle.dns_label.specs.Name.{IsName, wire};
-ghost use Rattle.dns_wire.specs.Draft.{Holds, IsNew};
+ghost use Rattle.dns_wire.specs.Draft.{Holds, IsNew, IsReadBy};
+ghost use Rattle.dns_entry_scanner.specs.EndedName.{IsEndedBy};
 ghost use Rattle.dns_entry_scanner.specs.EntryError.{is_memory, is_end};
 ghost use Rattle.dns_entry_scanner.specs.NameInText.{SpellsUnder};
 
@@ -53,10 +54,7 @@ pub trait TextName: ToName + Drop + Sized {
         ensures end { IfErr result (λ error. is_end error ≡ false) }
     {
         if is_at_sign(text) {
-            let Some(origin) = origin else {
-                return Err(EntryError::Custom("no origin"));
-            };
-            return Ok(Self::of_name(alloc, origin)?);
+            return Ok(Self::of_name(alloc, known_origin(origin)?)?);
         }
         let Ok(read) = NameDraft::read_text(text) else {
             return Err(EntryError::Custom("invalid name"));
@@ -64,59 +62,62 @@ pub trait TextName: ToName + Drop + Sized {
         let Some(mut draft) = read else {
             return Ok(Self::of_name(alloc, &Name::root_ref())?);
         };
-        if !draft.has_open_label() {
-            return dotted(alloc, &draft);
-        }
-        let Some(origin) = origin else {
-            return Err(EntryError::Custom("relative name without an origin"));
-        };
-        match draft.end_label() {
-            Ok(()) => relative(alloc, &draft, origin),
-            Err(_) => Err(EntryError::Custom("empty label")),
+        match end_labels(&mut draft, origin)? {
+            None => Ok(Self::of_labels(alloc, &draft)?),
+            Some(origin) => Ok(Self::of_labels_under(alloc, &draft, origin)?),
         }
     }
 }
 
 /// Returns whether the text is `@` alone.
-fn is_at_sign(text: &[u8]) -> bool
+pub(crate) fn is_at_sign(text: &[u8]) -> bool
     ensures { IsTrue result ↔ (text.now ≡ 64 ∷ []) }
 {
     matches!(text, [b'@'])
 }
 
-/// Returns the name of the finished labels and the root. Fails with `Custom` exactly if there is no label, and with
-/// `OutOfMemory` if out of memory.
-fn dotted<N: TextName>(alloc: Global, draft: &NameDraft) -> Result<N, EntryError>
-    requires { (labels : List (List ℕ)) × Holds draft.now labels [] }
-    ensures ok { IfOk result (λ made. Holds draft.now (N.name made) [] × IsName (N.name made) × (0 < length (N.name made))) }
-    ensures err { IfErr result (λ error. is_memory error ≡ false → IsNew draft.now) }
-    ensures memory { IfErr result (λ error. is_memory error ≡ true → IsNew draft.now → ⊥) }
-    ensures end { IfErr result (λ error. is_end error ≡ false) }
+/// Returns the origin. Fails with `Custom` exactly if none is known.
+pub(crate) fn known_origin(origin: Option<&Name<Vec<u8>>>) -> Result<&Name<Vec<u8>>, EntryError>
+    ensures ok { IfOk result (λ known. option_copied origin.entry ≡ Some known.now) }
+    ensures err { OnErr result (option_copied origin.entry ≡ None) }
+    ensures other { IfErr result (λ error. (is_memory error ≡ false) × (is_end error ≡ false)) }
 {
-    if draft.is_new() {
-        return Err(EntryError::Custom("empty name"));
+    match origin {
+        Some(origin) => Ok(origin),
+        None => Err(EntryError::Custom("no origin")),
     }
-    Ok(N::of_labels(alloc, draft)?)
 }
 
-/// Returns the name of the finished labels followed by the origin. Fails with `Custom` exactly if it is too long, and
-/// with `OutOfMemory` if out of memory.
-fn relative<N: TextName>(
-    alloc: Global,
-    draft: &NameDraft,
-    origin: &Name<Vec<u8>>,
-) -> Result<N, EntryError>
-    requires { (labels : List (List ℕ)) × Holds draft.now labels [] }
-    ensures ok { IfOk result (λ made. (labels : List (List ℕ)) × Holds draft.now labels []
-        × IsName (labels ++ origin.now) × (N.name made ≡ labels ++ origin.now)) }
-    ensures err { IfErr result (λ error. is_memory error ≡ false → (labels : List (List ℕ)) → Holds draft.now labels [] → IsName (labels ++ origin.now) → ⊥) }
-    ensures memory { IfErr result (λ error. is_memory error ≡ true → (labels : List (List ℕ)) × Holds draft.now labels [] × IsName (labels ++ origin.now)) }
-    ensures end { IfErr result (λ error. is_end error ≡ false) }
+/// Ends the last of the labels that were read from a text other than `@`. Returns the origin if it follows them, and `None` if
+/// the root does.
+///
+/// Fails with `Custom` exactly if the text spells no name under the origin.
+pub(crate) fn end_labels<'o>(
+    draft: &mut NameDraft,
+    origin: Option<&'o Name<Vec<u8>>>,
+) -> Result<Option<&'o Name<Vec<u8>>>, EntryError>
+    ensures ok { IfOk result (λ behind. (text : List ℕ) → text ≢ 64 ∷ [] → IsReadBy text (Some draft.old)
+        → IsEndedBy (option_copied origin.entry) text draft.new (option_copied behind)) }
+    ensures err { OnErr result ((text : List ℕ) (name : List (List ℕ)) → text ≢ 64 ∷ [] → IsReadBy text (Some draft.old)
+        → SpellsUnder (option_copied origin.entry) text name → ⊥) }
+    ensures other { IfErr result (λ error. (is_memory error ≡ false) × (is_end error ≡ false)) }
 {
+    if !draft.has_open_label() {
+        if draft.is_new() {
+            return Err(EntryError::Custom("empty name"));
+        }
+        return Ok(None);
+    }
+    let Some(origin) = origin else {
+        return Err(EntryError::Custom("relative name without an origin"));
+    };
+    let Ok(()) = draft.end_label() else {
+        return Err(EntryError::Custom("empty label"));
+    };
     if draft.labels().len() + origin.len() > 255 {
         return Err(EntryError::Custom("long domain name"));
     }
-    Ok(N::of_labels_under(alloc, draft, origin)?)
+    Ok(Some(origin))
 }
 
 /// Returns the octets of the finished labels and the root. The caller guarantees that there is a label.

@@ -1,14 +1,17 @@
 -- Hexadecimal digits that are read in twos, an octet for each two.
-use Rattle.std.proofs.Common.{◌≡◌, ◌+◌, ◌*◌, ◌^◌, ◌<◌, ℕ, List, [], ◌∷◌, ◌++◌, refl, sym, ◌∙◌, ap, subst, arith, append_assoc, append-nil, drop, take}
+use Rattle.std.proofs.Common.{◌≡◌, ◌+◌, ◌-◌, ◌*◌, ◌^◌, ◌<◌, ◌≤◌, ◌⊎◌, inl, inr, ℕ, List, [], ◌∷◌, ◌++◌, refl, sym, ◌∙◌, ap, subst, arith, append_assoc, append-nil, drop, take, get_or, length}
 use Rattle.std.specs.Char.{digit_value}
-use Rattle.std.proofs.lemmas.List.{take-append-drop}
+use Rattle.std.proofs.lemmas.Bool.{cases_lt}
+use Rattle.std.proofs.lemmas.List.{take-append-drop, take_all}
 use Rattle.dns_scan.specs.Bits.{bits}
 use Rattle.dns_scan.specs.Decoding.{HasRead, NoneIs, Progress, progress_of}
 use Rattle.dns_scan.specs.Encodings.{Decodes16}
 use Rattle.dns_scan.specs.declared.encoding.base.Base.TheVariants.{Sixteen}
-use Rattle.dns_scan_data.specs.AppendedHex.{SpellsPairs}
+use Rattle.dns_scan_data.specs.Appended.{GoesOn}
+use Rattle.dns_scan_data.specs.AppendedHex.{AppendsPairs, BeginsWithNoPair, SpellsPairs}
 use Rattle.dns_scan.proofs.BitLists.{bits_join, length-bits}
 use Rattle.dns_scan.proofs.Decoded.{no_character, not_whole, read_more, read_none, whole_decodes}
+use Rattle.dns_scan.proofs.Encodings.{decodes_one}
 
 -- these octets are whole, and these bits wait for others
 abbrev at : List ℕ → List ℕ → Progress
@@ -98,3 +101,114 @@ pairs_read octets read (high ∷ low ∷ digits) new so_far is =
 pub front_and_back : (n : ℕ) (whole front behind : List ℕ) → front ≡ take n whole → behind ≡ drop n whole → whole ≡ front ++ behind
 front_and_back n whole front behind is left =
     sym (take-append-drop n whole) ∙ ap (λ (l : List ℕ). l ++ drop n whole) (sym is) ∙ ap (λ (l : List ℕ). front ++ l) (sym left)
+
+-- no text that such digits and this one after them make is one of octets
+abbrev pub NoneBehind : List ℕ → Type 0
+NoneBehind text = (front octets : List ℕ) → SpellsPairs front octets → NoneIs Sixteen (front ++ text)
+
+pub no_pair : (text : List ℕ) → (text ≡ [] → ⊥) → BeginsWithNoPair text → NoneBehind text
+no_pair [] some none front octets is = absurd (some refl)
+no_pair (first ∷ []) some none front octets is =
+    let so_far = pairs_read [] [] front octets nothing_read is in
+    let text = front ++ first ∷ [] in elim (cases_lt (digit_value first) 16) [
+      | inl few ↦ no_half octets front so_far text (first ∷ []) refl first refl few
+      | inr over ↦ no_first octets front so_far text (first ∷ []) refl first [] refl (λ few. omega (arith, few, over))
+    ]
+no_pair (first ∷ second ∷ behind) some none front octets is =
+    let so_far = pairs_read [] [] front octets nothing_read is in
+    let left = first ∷ second ∷ behind in elim (cases_lt (digit_value first) 16) [
+      | inl few ↦ no_second octets front so_far (front ++ left) left refl first second behind refl few (none first second behind refl few)
+      | inr over ↦ no_first octets front so_far (front ++ left) left refl first (second ∷ behind) refl (λ few. omega (arith, few, over))
+    ]
+
+-- a text is digits in pairs, or it is no such end
+pairs_or_none : (text : List ℕ) → ((octets : List ℕ) × SpellsPairs text octets) ⊎ NoneBehind text
+pairs_or_none [] = inl ([], refl)
+pairs_or_none (first ∷ []) = inr (no_pair (first ∷ []) (λ none. cc) (λ high low behind same few less. cc))
+pairs_or_none (first ∷ second ∷ behind) =
+    let octet = 16 * digit_value first + digit_value second in elim (cases_lt (digit_value first) 16) [
+      | inl few ↦ elim (cases_lt (digit_value second) 16) [
+        | inl less ↦ elim (pairs_or_none behind) [
+          | inl more ↦ inl (octet ∷ more.0, (more.0, few, less, refl, more.1))
+          | inr none ↦
+              inr (λ front octets is.
+              subst (NoneIs Sixteen) (append_assoc front (first ∷ second ∷ []) behind)
+              (none (front ++ first ∷ second ∷ []) (octets ++ octet ∷ [])
+              (spells_more front octets (first ∷ second ∷ []) (octet ∷ []) is ([], few, less, refl, refl))))
+        ]
+        | inr over ↦
+            inr (λ front octets is.
+            no_second octets front (pairs_read [] [] front octets nothing_read is) (front ++ first ∷ second ∷ behind) (first ∷ second ∷ behind) refl
+            first second behind refl few (λ less. omega (arith, less, over)))
+      ]
+      | inr over ↦
+          inr (λ front octets is.
+          no_first octets front (pairs_read [] [] front octets nothing_read is) (front ++ first ∷ second ∷ behind) (first ∷ second ∷ behind) refl
+          first (second ∷ behind) refl (λ few. omega (arith, few, over)))
+    ]
+
+pub pairs_decode : (digits octets : List ℕ) → SpellsPairs digits octets → Decodes16 digits octets
+pairs_decode digits octets is =
+    all_read octets digits (pairs_read [] [] digits octets nothing_read is) digits [] (append-nil digits) refl
+
+-- what is behind such digits
+pub decodes_behind : (front octets left more : List ℕ) → SpellsPairs front octets → Decodes16 left more → Decodes16 (front ++ left) (octets ++ more)
+decodes_behind front octets left more is decodes = elim (pairs_or_none left) [
+  | inl all ↦
+      let same : more ≡ all.0 = decodes_one Sixteen left all.0 more (pairs_decode left all.0 all.1) decodes in
+      subst (λ (l : List ℕ). Decodes16 (front ++ left) (octets ++ l)) (sym same)
+      (pairs_decode (front ++ left) (octets ++ all.0) (spells_more front octets left all.0 is all.1))
+  | inr none ↦ absurd (none [] [] refl more decodes)
+]
+
+pub none_behind : (front octets left : List ℕ) → SpellsPairs front octets → NoneIs Sixteen left → NoneIs Sixteen (front ++ left)
+none_behind front octets left is none = elim (pairs_or_none left) [
+  | inl all ↦ absurd (none all.0 (pairs_decode left all.0 all.1))
+  | inr others ↦ others front octets is
+]
+
+-- a text that digits in pairs begin
+pub pairs_none : (text old : List ℕ) → AppendsPairs text text old old
+pairs_none text old = record { digits = []; octets = []; is = refl; spells = refl; behind = sym (append-nil old) }
+
+pub pairs_more : {text left old now new : List ℕ} (digits behind octets : List ℕ) → AppendsPairs text left old now → left ≡ digits ++ behind
+    → SpellsPairs digits octets → new ≡ now ++ octets → AppendsPairs text behind old new
+pairs_more {old = old} digits behind octets so is spells appended = record {
+  digits = so.digits ++ digits;
+  octets = so.octets ++ octets;
+  is = so.is ∙ ap (λ (l : List ℕ). so.digits ++ l) is ∙ sym (append_assoc so.digits digits behind);
+  spells = spells_more so.digits so.octets digits octets so.spells spells;
+  behind = appended ∙ ap (λ (l : List ℕ). l ++ octets) so.behind ∙ append_assoc old so.octets octets;
+}
+
+pub pairs_go : {text left old new : List ℕ} → AppendsPairs text left old new → GoesOn old new
+pairs_go so = record { more = so.octets; is = so.behind }
+
+-- if nothing is left of it
+pub pairs_all : {text left old new : List ℕ} (so : AppendsPairs text left old new) → left ≡ [] → SpellsPairs text so.octets
+pairs_all so none =
+    subst (λ (l : List ℕ). SpellsPairs l so.octets) (sym (so.is ∙ ap (λ (l : List ℕ). so.digits ++ l) none ∙ append-nil so.digits)) so.spells
+
+-- if something is
+pub pairs_wrong : {text left old new : List ℕ} → AppendsPairs text left old new → (left ≡ [] → ⊥) → BeginsWithNoPair left → NoneIs Sixteen text
+pairs_wrong {left = left} so some none =
+    subst (NoneIs Sixteen) (sym so.is) (no_pair left some none so.digits so.octets so.spells)
+
+-- the first two of octets, and the others
+pub two_first : (text : List ℕ) → 2 ≤ length text → text ≡ (get_or text 0 0 ∷ get_or text 1 0 ∷ []) ++ take (length text - 2) (drop 2 text)
+two_first [] some = absurd (omega arith)
+two_first (a ∷ []) some = absurd (omega arith)
+two_first (a ∷ b ∷ text) some = ap (λ (l : List ℕ). a ∷ b ∷ l) (sym (take_all (length (a ∷ b ∷ text) - 2) text (omega arith)))
+
+-- they are no digits
+pub two_wrong : (text : List ℕ) → 2 ≤ length text → (digit_value (get_or text 0 0) < 16 → digit_value (get_or text 1 0) < 16 → ⊥) → BeginsWithNoPair text
+two_wrong [] some none high low behind same few less = absurd (omega arith)
+two_wrong (a ∷ []) some none high low behind same few less = absurd (omega arith)
+two_wrong (a ∷ b ∷ text) some none high low behind same few less =
+    let first : high ≡ a = cc in
+    let second : low ≡ b = cc in
+    none (subst (λ (n : ℕ). digit_value n < 16) first few) (subst (λ (n : ℕ). digit_value n < 16) second less)
+
+-- there are fewer
+pub too_few : (text : List ℕ) → length text < 2 → BeginsWithNoPair text
+too_few text few high low behind same one also = omega (arith, few, ap (length {A = ℕ}) same)

@@ -28,3 +28,24 @@ SpellsPairs [] octets = octets ≡ []
 SpellsPairs (_ ∷ []) octets = ⊥
 SpellsPairs (high ∷ low ∷ digits) octets =
     (more : List ℕ) × IsHexDigit high × IsHexDigit low × (octets ≡ (16 * digit_value high + digit_value low) ∷ more) × SpellsPairs digits more
+
+-- The text begins with digits in pairs, and the others are left. The octets of the pairs follow the old ones.
+pub record AppendsPairs (text left old new : List ℕ) : Type 0 where
+  pub digits : List ℕ
+  pub octets : List ℕ
+  pub is : text ≡ digits ++ left
+  pub spells : SpellsPairs digits octets
+  pub behind : new ≡ old ++ octets
+
+-- the text does not begin with two digits
+abbrev pub BeginsWithNoPair : List ℕ → Type 0
+BeginsWithNoPair text = (high low : ℕ) (behind : List ℕ) → text ≡ high ∷ low ∷ behind → IsHexDigit high → IsHexDigit low → ⊥
+
+-- The text of the first token is digits in pairs, whose octets follow the old ones.
+pub record BeginsWithPairs (tokens : List Token) (old new : List ℕ) : Type 0 where
+  pub token : Token
+  pub left : List Token
+  pub is : tokens ≡ token ∷ left
+  pub octets : List ℕ
+  pub spells : SpellsPairs token.text octets
+  pub behind : new ≡ old ++ octets

@@ -38,7 +38,7 @@ impl<'t, N: TextName> RowScanner<'t, N> {
     ghost use Rattle.dns_entry_scanner.specs.RowScanner.{names_of, tokens_of};
 
     /// Takes the next token, and appends the octets of the name that it spells and `room` octets of any value behind them, for the
-    /// caller to write over.
+    /// caller to write over. `room` is at most 255.
     ///
     /// Fails as `scan_name_into` does, and then appends nothing.
     pub fn scan_name_and_room(
@@ -57,7 +57,7 @@ impl<'t, N: TextName> RowScanner<'t, N> {
         if token.quoted {
             return Err(EntryError::Custom("quoted name"));
         }
-        append_name(self.alloc, token, self.origin, room, octets)
+        append_name(token, self.origin, room, octets)
     }
 }
 
