@@ -4,8 +4,8 @@
 Which tests there are is read from crates.txt and the crates: the test functions of each crate that has some, the rows of each program
 `NAME_rows`, and the stored run of each other program (its files `args`, `stdin`, `data/`, `stdout` and `status`, read as the gate reads
 them: no `stdout` is no output, no `status` is 0); and `tools/zonetool_cases.py` has cases of `zonetool`. All run by `rt try`, which
-compiles with checks. `make prove` is the gate: it proves the crates, and runs the same tests and programs, but no cases, as two compilers
-build them.
+compiles with checks, but without its check of names (`quick_try.py`). `make prove` is the gate: it proves the crates, and runs the same
+tests and programs, but no cases, as two compilers build them.
 
 A run has ten minutes, since it is compiled with checks and a machine may be busy. Rows are run in parts, since a run has 1 MiB of
 output at most, and each part begins with the `let` lines before it. The rows of a part that stops early are run again one by one, so
@@ -34,6 +34,8 @@ from memory import try_program
 PART = 100
 # How many seconds a run may take.
 SECONDS = 600
+# What runs `rt try`.
+TRY = [sys.executable, str(ROOT / "tools" / "quick_try.py")]
 # How many differing rows are shown, and how much of each line, and how many lines of what `rt try` says.
 SHOWN, WIDTH, SAID = 5, 400, 30
 TEST = re.compile(r"^\s*#\[test\]", re.M)
@@ -99,7 +101,7 @@ class Job:
 
 def tried(folder, words, given=b""):
     """What `rt try` writes in a crate's folder, and what it says."""
-    ran = subprocess.run(["rt", "try", "--seconds", str(SECONDS), *words], cwd=folder, input=given, capture_output=True)
+    ran = subprocess.run([*TRY, "--seconds", str(SECONDS), *words], cwd=folder, input=given, capture_output=True)
     return ran.stdout, ran.stderr.decode(errors="backslashreplace")
 
 
