@@ -2,20 +2,19 @@
 use Rattle.std.proofs.Common.{◌≡◌, ◌≤◌, ◌<◌, ◌+◌, ◌-◌, ℕ, Bool, true, false, List, [], ◌∷◌, ◌++◌, Some, Result, Ok, Err, IfOk, length, map, take, refl, sym, ◌∙◌, ap, subst, arith, length-append, append_assoc, append-nil}
 use Rattle.std.proofs.Math.Seq.{take-append_seam}
 use Rattle.dns_name.specs.Page.{write}
-use Rattle.dns_name.specs.Page.Parts.{End}
 use Rattle.dns_name.specs.RecordData.{page_of}
 use Rattle.dns_name.specs.Spelling.{plain}
 use Rattle.dns_scan.specs.Token.{Token, SameNames, marker}
 use Rattle.dns_scan.specs.UnknownData.{IsUnknownData}
 use Rattle.dns_fields.specs.Fields.{Field, Kind, field_octets, kind_of, kinds_of, octets}
-use Rattle.dns_fields.specs.Scanned.{NoRowScans, ScansData, ScansField, ScansLong, ScansRow}
-use Rattle.dns_fields.specs.Written.{written_field, written_parts}
+use Rattle.dns_fields.specs.Scanned.{NoRowScans, ScansData, ScansLong, ScansRow}
+use Rattle.dns_fields.specs.Written.{written_parts}
 use Rattle.dns_fields.proofs.ScanParts.{no_others, row_scanned}
 use Rattle.dns_rdata.specs.Data.{IsUnmarked, typed, unknown_data}
 use Rattle.dns_rdata.specs.DataOctets.{data_octets}
 use Rattle.dns_rdata.proofs.ScanAny.{same_back, text_same}
 use Rattle.dns_scan_data.specs.Appended.{AppendsData, AppendsField, AppendsRow, AppendsTyped, GoesOn}
-use Rattle.dns_scan_data.proofs.InFull.{field_behind, row_behind}
+use Rattle.dns_scan_data.proofs.InFull.{row_behind}
 
 -- which names texts spell
 abbrev pub Names : Type 1
@@ -31,13 +30,7 @@ gone_on {old} first next = record {
 pub cut_back : (old new : List ℕ) → GoesOn old new → take (length old) new ≡ old
 cut_back old new goes = ap (take (length old)) goes.is ∙ take-append_seam old goes.more
 
--- a value that was scanned and composed
-pub field_appended : {names : Names} {its : Kind} {tokens left : List Token} {old new : List ℕ} (field : Field) → kind_of field ≡ its
-    → ScansField names field tokens left → page_of new [] ≡ write plain (page_of old []) (written_field field End)
-    → AppendsField names its tokens left old new
-field_appended {old = old} {new} field kind scans written =
-    record { field = field; kind = kind; scans = scans; behind = field_behind old new field written }
-
+-- a row that was scanned and composed
 pub whole_row_appended : {names : Names} {kinds : List Kind} {tokens left : List Token} {old new : List ℕ} (row : List Field)
     → map kind_of row ≡ kinds → ScansRow names row tokens left → page_of new [] ≡ write plain (page_of old []) (written_parts row)
     → AppendsRow names kinds tokens left old new

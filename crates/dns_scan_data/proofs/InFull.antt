@@ -40,10 +40,6 @@ row_written old (field ∷ row) =
     ∙ ap (λ (l : List ℕ). page_of l []) (append_assoc old (field_octets field) (octets row))
 
 -- what then follows the octets
-pub field_behind : (old new : List ℕ) (field : Field) → page_of new [] ≡ write plain (page_of old []) (written_field field End)
-    → new ≡ old ++ field_octets field
-field_behind old new field is = ap (λ (p : Page). p.octets) (is ∙ field_written old field)
-
 pub row_behind : (old new : List ℕ) (row : List Field) → page_of new [] ≡ write plain (page_of old []) (written_parts row)
     → new ≡ old ++ octets row
 row_behind old new row is = ap (λ (p : Page). p.octets) (is ∙ row_written old row)

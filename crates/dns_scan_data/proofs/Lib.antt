@@ -3,5 +3,6 @@ mod Names
 mod Strings
 mod HexDigits
 mod HexLanes
+mod ColonHex
 mod AppendedHex
 pub mod Appending

@@ -1,12 +1,15 @@
 //! Scanning fields into octets.
-ghost use Rattle.std.specs.Prelude.{◌≡◌, ◌++◌, true, false, IfErr, OnErr, OnOk};
+ghost use Rattle.std.specs.Prelude.{◌≡◌, ◌++◌, List, ℕ, true, false, IfErr, IfNone, IfSome, OnErr, OnOk};
+ghost use Rattle.std.specs.Net.Addr.{ipv6_segments};
+ghost use Rattle.std.specs.Net.Grammar.{IsColonHex};
 ghost use Rattle.dns_fields.specs.Scanned.{NoFieldScans};
 ghost use Rattle.dns_scan.specs.Token.{SameNames};
 ghost use Rattle.dns_scan_data.specs.Appended.{AppendsField, GoesOn};
 
+use crate::colon_hex::colon_hex_in;
 use dns_entry_scanner::WireScanner;
 use dns_name::{FromBuilder, ToName};
-use dns_rdata::rows::{Compressible, FieldValue, HasField, ScanField, Tag, Uncompressed};
+use dns_rdata::rows::{Compressible, HasField, ScanField, Tag, Uncompressed};
 use dns_text::{CharStr, Scanner, ScannerError};
 use std::net::{Ipv4Addr, Ipv6Addr};
 
@@ -79,7 +82,14 @@ impl<S: Scanner> ScanFieldInto<S> for Ipv4Addr {
 
 impl<S: Scanner> ScanFieldInto<S> for Ipv6Addr {
     fn scan_field_into(scanner: &mut S, octets: &mut Vec<u8>) -> Result<(), S::Error> {
-        scan_and_append::<S, Ipv6Addr>(scanner, octets)
+        let address = match scanner.scan_ascii_str(read_ipv6) {
+            Ok(address) => address,
+            Err(error) => return Err(error),
+        };
+        match octets.extend_from_slice(&address.octets()) {
+            Ok(()) => Ok(()),
+            Err(_) => Err(S::Error::short_buf()),
+        }
     }
 }
 
@@ -123,26 +133,12 @@ impl<Octs: FromBuilder + Drop, S: WireScanner<Octets = Octs>> ScanFieldInto<S> f
     }
 }
 
-/// Scans a field and appends its octets.
-fn scan_and_append<S: Scanner, A: FieldValue + ScanField<S>>(
-    scanner: &mut S,
-    octets: &mut Vec<u8>,
-) -> Result<(), S::Error>
-    ensures ok { OnOk result (AppendsField (S.names scanner.old) A.kind (S.tokens scanner.old) (S.tokens scanner.new)
-        octets.old.items octets.new.items) }
-    ensures err { IfErr result (λ error. S.Error.is_short error ≡ false
-        → NoFieldScans (S.names scanner.old) A.kind (S.tokens scanner.old)) }
-    ensures names { SameNames (S.names scanner.old) (S.names scanner.new) }
-    ensures more { GoesOn octets.old.items octets.new.items }
+/// Returns the address that the text writes in groups of hexadecimal digits (RFC 4291 2.2).
+fn read_ipv6(text: &str) -> Option<Ipv6Addr>
+    ensures some { IfSome result (λ address. IsColonHex text.now (ipv6_segments address)) }
+    ensures none { IfNone result ((segments : List ℕ) → IsColonHex text.now segments → ⊥) }
 {
-    let field = match A::scan_field(scanner) {
-        Ok(field) => field,
-        Err(error) => return Err(error),
-    };
-    match field.compose_field(octets) {
-        Ok(()) => Ok(()),
-        Err(_) => Err(S::Error::short_buf()),
-    }
+    colon_hex_in(text.as_bytes())
 }
 
 /// Appends two octets. Fails with `short_buf` if out of memory, and then appends nothing.

@@ -178,7 +178,7 @@ fn pair_octet(high: u8, low: u8) -> Option<u8>
 
 /// Returns the value of a hexadecimal digit, in upper or lower case, or a number above 15 for any other octet.
 #[inline(always)]
-fn hex_value(octet: u8) -> u8
+pub(crate) fn hex_value(octet: u8) -> u8
     ensures { result ≡ digit_value octet }
 {
     VALUES[octet as usize]

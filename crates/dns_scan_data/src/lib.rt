@@ -4,6 +4,7 @@
 //! value.
 #![tactic(auto)]
 
+mod colon_hex;
 mod data;
 mod field;
 mod hex;
