@@ -1,5 +1,5 @@
 -- Vectors of hexadecimal digits, and their values lane by lane.
-use Rattle.std.proofs.Common.{◌≡◌, ◌==◌, ◌+◌, ◌-◌, ◌*◌, ◌%◌, ◌^◌, ◌<◌, ◌≤◌, ◌&&◌, ◌||◌, ◌⊎◌, inl, inr, zero, suc, ℕ, Bool, true, false, not, cond, List, [], ◌∷◌, ◌++◌, nat_lt, nat_eq, map, length, get_or, w8, Fits, refl, sym, ◌∙◌, ap, subst, arith}
+use Rattle.std.proofs.Common.{◌≡◌, ◌==◌, ◌+◌, ◌-◌, ◌*◌, ◌%◌, ◌^◌, ◌<◌, ◌&&◌, ◌||◌, inl, inr, zero, suc, ℕ, Bool, true, false, not, cond, List, [], ◌∷◌, ◌++◌, nat_lt, map, length, get_or, w8, Fits, refl, sym, ◌∙◌, ap, subst, arith}
 use Rattle.std.specs.Char.{digit_value}
 use Rattle.dns_scan_data.specs.AppendedHex.{IsHexDigit, SpellsPairs}
 use Rattle.std.specs.List.{AllByRecursion}

@@ -1,6 +1,5 @@
-use Rattle.std.proofs.Common.{◌-◌, ◌∷◌, List, ℕ, [], length, take, drop, get_or, refl, subst, sym, arith, length-take, length-drop}
-use Rattle.dns_scan_data.specs.AppendedHex.{AppendsPairs}
-use Rattle.dns_scan_data.proofs.HexDigits.{pairs_go, pairs_more, too_few, two_first, two_wrong}
+use Rattle.std.proofs.Common.{◌-◌, ◌∷◌, [], length, take, drop, get_or, arith, length-take, length-drop}
+use Rattle.dns_scan_data.proofs.HexDigits.{pairs_more, two_first}
 use Rattle.dns_scan_data.proofs.hex.append_pairs.Goals as goal
 
 pub loop-left-preserved : goal.loop-left-preserved

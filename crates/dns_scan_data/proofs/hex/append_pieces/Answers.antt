@@ -1,5 +1,5 @@
 use Rattle.std.proofs.Common.{◌≡◌, ◌++◌, rules}
-use Rattle.dns_scan_data.proofs.HexDigits.{front_and_back, pairs_go, pairs_more, pairs_none}
+use Rattle.dns_scan_data.proofs.HexDigits.{front_and_back, pairs_more, pairs_none}
 use Rattle.dns_scan_data.proofs.hex.append_pieces.Goals as goal
 
 pub loop-digits-init : goal.loop-digits-init

@@ -1,4 +1,4 @@
-use Rattle.std.proofs.Common.{◌++◌, ℕ, List, refl, ap, ◌∙◌}
+use Rattle.std.proofs.Common.{refl}
 use Rattle.dns_fields.specs.Fields.{number8}
 use Rattle.dns_scan_data.proofs.field.U8ScanFieldInto.scan_field_into.Goals as goal
 
