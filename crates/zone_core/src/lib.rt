@@ -1,8 +1,8 @@
-//! Queries for the transfer of a zone, and laws of transfers (RFC 5936).
+//! Queries for the transfer of a zone, the spellings of names in messages, and laws of transfers (RFC 5936).
 //!
-//! Part of `zonewire`, which re-exports `check_query`, `axfr_query` and their types. `zone_send` and `zone_receive`
-//! build on it: `specs/` defines what a query asks, which stream is a zone's transfer, and how records are cut into
-//! messages. The functions of the other modules are for these two crates.
+//! Part of `zonewire`, which re-exports `check_query`, `axfr_query` and their types, and `Spelling`. `zone_send` and
+//! `zone_receive` build on it: `specs/` defines what a query asks, which stream is a zone's transfer, and how records
+//! are cut into messages. The functions of the other modules are for these two crates.
 #![tactic(auto)]
 
 pub mod frames;
@@ -10,6 +10,8 @@ pub mod laws;
 mod query;
 mod query_error;
 pub mod question;
+mod spelling;
 
 pub use query::{Query, axfr_query, check_query};
 pub use query_error::QueryError;
+pub use spelling::Spelling;

@@ -24,8 +24,8 @@ use Rattle.zone_send.specs.SentBy.{IsSentBy, IsBlockedBy, IsRefusedFor}
 use Rattle.zone_send.specs.Spelled.{answer_head, spelled_size}
 use Rattle.zone_send.specs.SpelledSent.{IsSpelledSent, IsTakenAs, spelled_message}
 use Rattle.zone_send.specs.Best.{IsFewest, IsSpelledFewest, IsFewestBy, HasNoCuttingBy, FitsNoMessages, IfRecord, IsShortest, IsBest, IsBestBy, IsNearTransfer, IsSentFor, IsTransferBy}
-use Rattle.zone_send.specs.declared.sending.Spelling.{Spelling}
-use Rattle.zone_send.specs.declared.sending.Spelling.TheVariants.{Plain, Static, Tree, Hash}
+use Rattle.zone_core.specs.declared.spelling.Spelling.{Spelling}
+use Rattle.zone_core.specs.declared.spelling.Spelling.TheVariants.{Plain, Static, Tree, Hash}
 use Rattle.zone_send.specs.declared.sending.error.SendError.{SendError}
 use Rattle.zone_send.specs.declared.sending.error.SendError.TheVariants as send_error
 use Rattle.zone_send.proofs.CanonicalTransfers.{kept_canonical}

@@ -17,8 +17,8 @@ use Rattle.zone_send.specs.Sent.{IsQueryFor}
 use Rattle.zone_send.specs.SentBy.{IsSentBy}
 use Rattle.zone_send.specs.SpelledSent.{IsNear, IsNearData, IsNearField, IsTakenAs}
 use Rattle.zone_send.specs.SpelledSent.IsNearData.{same as same_data, fields as near_fields}
-use Rattle.zone_send.specs.declared.sending.Spelling.{Spelling}
-use Rattle.zone_send.specs.declared.sending.Spelling.TheVariants.{Plain, Static, Tree, Hash}
+use Rattle.zone_core.specs.declared.spelling.Spelling.{Spelling}
+use Rattle.zone_core.specs.declared.spelling.Spelling.TheVariants.{Plain, Static, Tree, Hash}
 use Rattle.zone_send.proofs.SentTransfers.{sendable_is_transfer}
 use Rattle.zone_send.proofs.SpelledTransfers.{spelled_exact, spelled_taken}
 

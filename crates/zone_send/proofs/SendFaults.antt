@@ -8,7 +8,7 @@ use Rattle.zone_core.specs.Query.{AxfrQuery, IsQuery}
 use Rattle.zone_records.specs.Records.{AreRecordsOf}
 use Rattle.zone_send.specs.Sent.{IsQueryFor, AsksFor}
 use Rattle.zone_send.specs.SentBy.{IsSendFault, IsRefusedFor}
-use Rattle.zone_send.specs.declared.sending.Spelling.{Spelling}
+use Rattle.zone_core.specs.declared.spelling.Spelling.{Spelling}
 use Rattle.zone.specs.View.{apex_of}
 
 fault_of : (spelling : Spelling) (query : AxfrQuery) (class : ℕ) (records : List Record) (octets : List ℕ) (max : ℕ) (error : SendError)

@@ -21,8 +21,8 @@ use Rattle.zone_send.specs.Sent.{message, size, with_soa_again, IsQueryFor, IsSe
 use Rattle.zone_send.specs.SentBy.{IsSentBy, IsBlockedBy, KeepsCase}
 use Rattle.zone_send.specs.Spelled.{answer_head, spelled_size}
 use Rattle.zone_send.specs.SpelledSent.{spelled_message, IsSpelledSent, IsSpelledBlocked}
-use Rattle.zone_send.specs.declared.sending.Spelling.{Spelling}
-use Rattle.zone_send.specs.declared.sending.Spelling.TheVariants.{Plain, Static, Tree, Hash}
+use Rattle.zone_core.specs.declared.spelling.Spelling.{Spelling}
+use Rattle.zone_core.specs.declared.spelling.Spelling.TheVariants.{Plain, Static, Tree, Hash}
 use Rattle.zone_send.proofs.AgreedCuts.{full_cut_agrees, blocked_agrees}
 use Rattle.zone_send.proofs.Plain.{size_grows}
 use Rattle.zone_send.proofs.SentTransfers.{received_is_sent_again}

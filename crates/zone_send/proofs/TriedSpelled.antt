@@ -26,7 +26,7 @@ use Rattle.zone_core.proofs.Framing.{whole_frames_one}
 use Rattle.zone_send.specs.Best.{IsBest, IsShortest}
 use Rattle.zone_send.specs.Spelled.{answer_head, spelled_size, IsFreeAnswer}
 use Rattle.zone_send.specs.SpelledSent.{IsSpelledSent, spelled_message}
-use Rattle.zone_send.specs.declared.sending.Spelling.TheVariants.{Tree}
+use Rattle.zone_core.specs.declared.spelling.Spelling.TheVariants.{Tree}
 use Rattle.zone_send.proofs.Best.{tree_best}
 use Rattle.zone_send.proofs.SentOnce.{sent_once}
 use Rattle.zone_send.proofs.TriedZone.{soa, query}

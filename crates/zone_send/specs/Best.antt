@@ -19,8 +19,8 @@ use Rattle.zone_send.specs.Sent.{size, with_soa_again, AsksFor}
 use Rattle.zone_send.specs.SentBy.{IsSentBy, KeepsCase}
 use Rattle.zone_send.specs.Spelled.{answer_head, spelled_size, IsFreeAnswer, SpellGroups}
 use Rattle.zone_send.specs.SpelledSent.{IsNear}
-use Rattle.zone_send.specs.declared.sending.Spelling.{Spelling}
-use Rattle.zone_send.specs.declared.sending.Spelling.TheVariants.{Plain, Static, Tree, Hash}
+use Rattle.zone_core.specs.declared.spelling.Spelling.{Spelling}
+use Rattle.zone_core.specs.declared.spelling.Spelling.TheVariants.{Plain, Static, Tree, Hash}
 use Rattle.zone_send.specs.declared.sending.error.SendError.{SendError}
 use Rattle.zone_send.specs.declared.sending.error.SendError.TheVariants as send_error
 

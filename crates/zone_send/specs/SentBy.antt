@@ -6,8 +6,8 @@ use Rattle.zone_core.specs.Query.{AxfrQuery, IsQuery, IsQueryFault}
 use Rattle.zone_core.specs.Cutting.{IsBlocked}
 use Rattle.zone_send.specs.Sent.{size, with_soa_again, IsSent, AsksFor}
 use Rattle.zone_send.specs.SpelledSent.{IsSpelledSent, IsSpelledBlocked}
-use Rattle.zone_send.specs.declared.sending.Spelling.{Spelling}
-use Rattle.zone_send.specs.declared.sending.Spelling.TheVariants.{Plain, Static, Tree, Hash}
+use Rattle.zone_core.specs.declared.spelling.Spelling.{Spelling}
+use Rattle.zone_core.specs.declared.spelling.Spelling.TheVariants.{Plain, Static, Tree, Hash}
 use Rattle.zone_send.specs.declared.sending.error.SendError.{SendError}
 use Rattle.zone_send.specs.declared.sending.error.SendError.TheVariants as send_error
 

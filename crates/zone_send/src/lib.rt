@@ -7,4 +7,5 @@
 pub mod laws;
 mod sending;
 
-pub use sending::{SendError, Spelling, send};
+pub use sending::{SendError, send};
+pub use zone_core::Spelling;

@@ -24,22 +24,8 @@ use spelled::Answer;
 use std::alloc::Global;
 use zone::Zone;
 use zone::zone::records_of;
-use zone_core::{Query, check_query};
+use zone_core::{Query, Spelling, check_query};
 use zone_records::record_list::RecordList;
-
-/// How the names in messages are written (RFC 1035 4.1.4).
-#[derive(Clone, Copy, Debug, PartialEq, Eq)]
-pub enum Spelling {
-    /// Every name is written out.
-    Plain,
-    /// A suffix that occurred before is a pointer to it, up to ASCII case. At most 24 suffixes of a message are
-    /// remembered.
-    Static,
-    /// A suffix that occurred before is a pointer to it, octet for octet.
-    Tree,
-    /// A suffix that occurred before is a pointer to it, up to ASCII case.
-    Hash,
-}
 
 /// Returns the stream that answers a query for the zone's transfer: its records in order and the SOA again, in messages
 /// of at most `max` octets, each after its length in two octets (RFC 5936 2.2).

@@ -9,7 +9,7 @@ use Rattle.zone_records.specs.Record.{Record}
 use Rattle.zone_core.specs.Query.{query_octets}
 use Rattle.zone.specs.View.{Contents, apex_of}
 use Rattle.zone_send.specs.Best.{IsSentFor}
-use Rattle.zone_send.specs.declared.sending.Spelling.{Spelling}
+use Rattle.zone_core.specs.declared.spelling.Spelling.{Spelling}
 use Rattle.zone_tool.specs.declared.statistics.Statistics.{Statistics}
 use Rattle.zone_tool.specs.declared.statistics.TypeCount.{TypeCount}
 

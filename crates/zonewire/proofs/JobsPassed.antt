@@ -20,8 +20,8 @@ use Rattle.zone_core.proofs.OneQuery.{query_one}
 use Rattle.zone_send.specs.Best.{IsTransferBy}
 use Rattle.zone_send.specs.Sent.{AsksFor, IsQueryFor}
 use Rattle.zone_send.specs.SentBy.{IsSentBy}
-use Rattle.zone_send.specs.declared.sending.Spelling.{Spelling}
-use Rattle.zone_send.specs.declared.sending.Spelling.TheVariants.{Plain, Static, Tree, Hash}
+use Rattle.zone_core.specs.declared.spelling.Spelling.{Spelling}
+use Rattle.zone_core.specs.declared.spelling.Spelling.TheVariants.{Plain, Static, Tree, Hash}
 use Rattle.zone_send.proofs.SentTransfers.{sendable_is_transfer}
 use Rattle.zone_send.proofs.SpelledTransfers.{spelled_exact, spelled_taken}
 use Rattle.zonewire.specs.Output.{IsReceiveOutput, IsSendOutput, query_of}

@@ -19,7 +19,7 @@ use Rattle.zone_core.proofs.OneQuery.{query_fault_one, query_no_fault, query_one
 use Rattle.zone_core.proofs.OneTransfer.{transfer_one}
 use Rattle.zone_send.specs.Sent.{AsksFor}
 use Rattle.zone_send.specs.SentBy.{IsBlockedBy, IsSendFault, IsSentBy}
-use Rattle.zone_send.specs.declared.sending.Spelling.{Spelling}
+use Rattle.zone_core.specs.declared.spelling.Spelling.{Spelling}
 use Rattle.zone_send.specs.declared.sending.error.SendError.{SendError}
 use Rattle.zone_send.specs.declared.sending.error.SendError.TheVariants as send_error
 use Rattle.zone_send.proofs.SentOnce.{blocked_once, sent_once, sent_or_blocked}

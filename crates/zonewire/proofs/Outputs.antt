@@ -7,7 +7,7 @@ use Rattle.zone.specs.ZoneText.{IsZoneFault, IsZoneText}
 use Rattle.zone.specs.declared.zone_error.ZoneError.{ZoneError}
 use Rattle.zone.specs.declared.zone_error.ZoneError.TheVariants.{OutOfMemory as NoMemory}
 use Rattle.zone_send.specs.SentBy.{IsSendFault}
-use Rattle.zone_send.specs.declared.sending.Spelling.{Spelling}
+use Rattle.zone_core.specs.declared.spelling.Spelling.{Spelling}
 use Rattle.zone_send.specs.declared.sending.error.SendError.{SendError}
 use Rattle.zone_send.specs.declared.sending.error.SendError.TheVariants.{Query, WrongZone, Record as Blocked, OutOfMemory}
 use Rattle.zonewire.specs.Fault.{of_send, of_zone}

@@ -10,8 +10,8 @@ use Rattle.zone_core.proofs.OneQuery.{query_one}
 use Rattle.zone_core.proofs.OneTransfer.{transfer_one}
 use Rattle.zone_send.specs.Best.{IsNearTransfer, IsSentFor, IsTransferBy}
 use Rattle.zone_send.specs.SpelledSent.{IsNear}
-use Rattle.zone_send.specs.declared.sending.Spelling.{Spelling}
-use Rattle.zone_send.specs.declared.sending.Spelling.TheVariants.{Plain, Static, Tree, Hash}
+use Rattle.zone_core.specs.declared.spelling.Spelling.{Spelling}
+use Rattle.zone_core.specs.declared.spelling.Spelling.TheVariants.{Plain, Static, Tree, Hash}
 use Rattle.zonewire.specs.Passed.{ArePassedBy}
 use Rattle.zonewire.proofs.SpelledOctets.{transfer_is_zone}
 

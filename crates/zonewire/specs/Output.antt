@@ -9,7 +9,7 @@ use Rattle.zone_core.specs.Query.{AxfrQuery, IsQuery, query_octets}
 use Rattle.zone.specs.ZoneText.{IsZoneText, IsZoneFault}
 use Rattle.zone_send.specs.Sent.{AsksFor}
 use Rattle.zone_send.specs.SentBy.{IsSentBy, IsSendFault}
-use Rattle.zone_send.specs.declared.sending.Spelling.{Spelling}
+use Rattle.zone_core.specs.declared.spelling.Spelling.{Spelling}
 use Rattle.zone_core.specs.Transfer.{IsTransfer}
 use Rattle.zone_receive.specs.Receiving.{IsAskFault, IsBegun, IsStreamFault}
 use Rattle.zone.specs.Printed.{IsPrinted}

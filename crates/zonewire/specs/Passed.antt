@@ -4,8 +4,8 @@ use Rattle.std.specs.List.{AllZip}
 use Rattle.dns_label.specs.Name.{IsName}
 use Rattle.zone_records.specs.Record.{Record}
 use Rattle.zone_send.specs.SpelledSent.{IsNear}
-use Rattle.zone_send.specs.declared.sending.Spelling.{Spelling}
-use Rattle.zone_send.specs.declared.sending.Spelling.TheVariants.{Plain, Static, Tree, Hash}
+use Rattle.zone_core.specs.declared.spelling.Spelling.{Spelling}
+use Rattle.zone_core.specs.declared.spelling.Spelling.TheVariants.{Plain, Static, Tree, Hash}
 use Rattle.zonewire.specs.declared.jobs.Job.{Job}
 use Rattle.zonewire.specs.declared.jobs.Job.TheVariants.{Send, Receive, Check, Canon}
 

@@ -17,8 +17,8 @@ use Rattle.dns_label.specs.NameText.{IsNameText}
 use Rattle.dns_values.specs.Mnemonic.{class_read}
 use Rattle.dns_text.specs.declared.layout.DisplayKind.{DisplayKind}
 use Rattle.dns_text.specs.declared.layout.DisplayKind.TheVariants.{Simple, Tabbed, Multiline}
-use Rattle.zone_send.specs.declared.sending.Spelling.{Spelling}
-use Rattle.zone_send.specs.declared.sending.Spelling.TheVariants.{Plain, Static, Tree, Hash}
+use Rattle.zone_core.specs.declared.spelling.Spelling.{Spelling}
+use Rattle.zone_core.specs.declared.spelling.Spelling.TheVariants.{Plain, Static, Tree, Hash}
 use Rattle.zonewire.specs.declared.jobs.Job.{Job}
 use Rattle.zonewire.specs.declared.jobs.Job.TheVariants.{Send, Receive, Check, Canon}
 use Rattle.zonewire.specs.declared.command_line.WordsFault.{WordsFault}

@@ -10,7 +10,7 @@ use Rattle.zone_records.specs.Record.{Record}
 use Rattle.zone.specs.Printed.{IsPrinted}
 use Rattle.zone_send.specs.Best.{FitsNoMessages, IfRecord, IsSentFor}
 use Rattle.zone_send.specs.SentBy as sent
-use Rattle.zone_send.specs.declared.sending.Spelling.{Spelling}
+use Rattle.zone_core.specs.declared.spelling.Spelling.{Spelling}
 use Rattle.zone_send.specs.declared.sending.error.SendError.{SendError}
 use Rattle.zonewire.specs.Output.{IsNotReceived, IsReceived}
 use Rattle.zonewire_c.specs.Given.{HasLayout, HasSpelling, IsLayout, IsNoLayout, IsNoSpelling, IsSpelling, IsTextFault, IsTextOf}

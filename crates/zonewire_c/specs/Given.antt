@@ -7,8 +7,8 @@ use Rattle.dns_text.specs.declared.layout.DisplayKind.TheVariants.{Simple, Tabbe
 use Rattle.zone_records.specs.Record.{Record}
 use Rattle.zone.specs.ZoneText.{IsZoneFault, IsZoneText}
 use Rattle.zone.specs.declared.zone_error.ZoneError.{ZoneError}
-use Rattle.zone_send.specs.declared.sending.Spelling.{Spelling}
-use Rattle.zone_send.specs.declared.sending.Spelling.TheVariants.{Plain, Static, Tree, Hash}
+use Rattle.zone_core.specs.declared.spelling.Spelling.{Spelling}
+use Rattle.zone_core.specs.declared.spelling.Spelling.TheVariants.{Plain, Static, Tree, Hash}
 use Rattle.zonewire_c.specs.declared.fault.Fault.{Fault}
 use Rattle.zonewire_c.specs.declared.fault.Fault.TheVariants as fault
 

@@ -9,7 +9,7 @@ ghost use Rattle.zone_core.specs.Transfer.{IsTransfer};
 ghost use Rattle.zone_send.specs.Sent.{IsQueryFor};
 ghost use Rattle.zone_send.specs.SentBy.{IsSentBy};
 ghost use Rattle.zone_send.specs.SpelledSent.{IsNear};
-ghost use Rattle.zone_send.specs.declared.sending.Spelling.{Spelling};
+ghost use Rattle.zone_core.specs.declared.spelling.Spelling.{Spelling};
 ghost use Rattle.std.specs.List.{AllByRecursion, AllZip};
 ghost use Rattle.zone.specs.Canonical.{HasCanonicalForm};
 

@@ -7,7 +7,7 @@ ghost use Rattle.zone_core.specs.Query.{AxfrQuery};
 ghost use Rattle.zone_core.specs.Transfer.{IsTransfer};
 ghost use Rattle.zone_send.specs.Sent.{IsQueryFor};
 ghost use Rattle.zone_send.specs.SentBy.{IsSentBy, IsBlockedBy, KeepsCase};
-ghost use Rattle.zone_send.specs.declared.sending.Spelling.{Spelling};
+ghost use Rattle.zone_core.specs.declared.spelling.Spelling.{Spelling};
 
 /// For any spelling and limit, at most one stream is sent for records and a query, octet for octet, and at most one
 /// record is blocked. If one is blocked, nothing is sent.

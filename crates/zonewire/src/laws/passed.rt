@@ -11,7 +11,7 @@ ghost use Rattle.zone_core.specs.Transfer.{IsTransfer};
 ghost use Rattle.zone.specs.Printed.{IsPrinted};
 ghost use Rattle.zone.specs.ZoneText.{IsZoneText};
 ghost use Rattle.zone_send.specs.Best.{IsSentFor};
-ghost use Rattle.zone_send.specs.declared.sending.Spelling.{Spelling};
+ghost use Rattle.zone_core.specs.declared.spelling.Spelling.{Spelling};
 ghost use Rattle.zone.specs.View.{apex_of};
 ghost use Rattle.zonewire.specs.Output.{IsOutput};
 ghost use Rattle.zonewire.specs.Passed.{ArePassedBy, HasLawfulValues};

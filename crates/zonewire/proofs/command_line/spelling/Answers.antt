@@ -1,7 +1,7 @@
 use Rattle.std.proofs.Common.{◌∙◌, sym, ap, codes}
 use Rattle.std.specs.Option.{option_map_or}
 use Rattle.clap.specs.Words.{found_of}
-use Rattle.zone_send.specs.declared.sending.Spelling.TheVariants.{Tree}
+use Rattle.zone_core.specs.declared.spelling.Spelling.TheVariants.{Tree}
 use Rattle.zonewire.specs.Words.{spelling_named}
 use Rattle.zonewire.proofs.Texts.{text_read}
 use Rattle.zonewire.proofs.command_line.spelling.Goals as goal
