@@ -24,7 +24,7 @@ def needs_of():
 
 def words_of(name):
     """The words of the option's list of this name in the program's command line, as `SPELLINGS`, in their order."""
-    source = (ROOT / "crates" / "zonewire" / "src" / "command_line.rt").read_text(encoding="utf-8")
+    source = (ROOT / "crates" / "zonewire_words" / "src" / "command_line.rt").read_text(encoding="utf-8")
     return re.findall(r'"(\w+)"', re.search(rf"^static {name}: &\[&str\] = &\[(.*)\];$", source, re.M)[1])
 
 

@@ -35,9 +35,9 @@ class Program:
 
 def programs():
     needs = needs_of()
-    zone_crates = [it for it in lower("zone_main", needs) if it in ("zonewire", "zone") or it.startswith("zone_")]
+    zone_crates = [it for it in lower("zone_main", needs) if it in ("zonewire", "zonewire_words", "zone") or it.startswith("zone_")]
     return [
-        Program("zonewire", "zonewire", "zone_main", zone_crates, frozenset({"--help"})),
+        Program("zonewire", "zonewire_words", "zone_main", zone_crates, frozenset({"--help"})),
         Program("zonetool", "tool_words", "tool_main", ["zone", "zone_forms", "tool_words"], frozenset({"--help", "--version"})),
     ]
 

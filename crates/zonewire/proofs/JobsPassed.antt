@@ -26,7 +26,7 @@ use Rattle.zone_send.proofs.SentTransfers.{sendable_is_transfer}
 use Rattle.zone_send.proofs.SpelledTransfers.{spelled_exact, spelled_taken}
 use Rattle.zonewire.specs.Output.{IsReceiveOutput, IsSendOutput, query_of}
 use Rattle.zonewire.specs.Passed.{ArePassedBy, HasLawfulValues}
-use Rattle.zonewire.specs.declared.jobs.Job.TheVariants.{Send}
+use Rattle.zonewire_words.specs.declared.jobs.Job.TheVariants.{Send}
 use Rattle.zonewire.proofs.AskedNames.{AskAlike, transfer_for_other}
 use Rattle.zonewire.proofs.Passed.{passed_by}
 use Rattle.zonewire.proofs.SendableTexts.{text_sendable}

@@ -1,9 +1,4 @@
 mod Known
-mod Uses
-mod Rows
-mod Named
-mod Numbers
-mod Texts
 pub mod Outputs
 mod Received
 mod OneOutput
@@ -14,4 +9,3 @@ mod SendableTexts
 mod AskedNames
 mod JobsPassed
 mod Tried
-mod TriedWords

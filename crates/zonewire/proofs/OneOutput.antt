@@ -28,8 +28,8 @@ use Rattle.zone_receive.specs.declared.error.ReceiveError.{ReceiveError}
 use Rattle.zone_receive.specs.declared.error.ReceiveError.TheVariants as receive_error
 use Rattle.zone_receive.proofs.OneOfThree.{bad_one, begun_not_bad, transfer_beginning_one, transfer_not_bad, transfer_not_begun}
 use Rattle.zonewire.specs.Output.{IsCanonOutput, IsCheckOutput, IsJobFault, IsNotSent, IsOutput, IsReceived, IsReceiveJobFault, IsReceiveOutput, IsSendJobFault, IsSendOutput, IsTextJobFault, asking_for, count_line, query_of}
-use Rattle.zonewire.specs.declared.jobs.Job.{Job}
-use Rattle.zonewire.specs.declared.jobs.Job.TheVariants as job
+use Rattle.zonewire_words.specs.declared.jobs.Job.{Job}
+use Rattle.zonewire_words.specs.declared.jobs.Job.TheVariants as job
 use Rattle.zonewire.specs.declared.fault.Fault.{Fault}
 use Rattle.zonewire.specs.declared.fault.Fault.TheVariants as fault
 

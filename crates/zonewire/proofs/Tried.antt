@@ -10,7 +10,7 @@ use Rattle.zone_canonical.proofs.Alike.{one_canonical}
 use Rattle.zone.proofs.OneFault.{one_reading}
 use Rattle.zone.proofs.Tried.{address, address_is_row, address_row, soa, soa_is_row, soa_row, zone, zone_is_text}
 use Rattle.zonewire.specs.Output.{IsOutput}
-use Rattle.zonewire.specs.declared.jobs.Job.TheVariants.{Canon, Check}
+use Rattle.zonewire_words.specs.declared.jobs.Job.TheVariants.{Canon, Check}
 
 -- `zonewire check` writes `2 records` and a line feed.
 pub counts_two : IsOutput (Check None 1) zone (codes "2 records" ++ 10 ∷ [])

@@ -5,12 +5,8 @@ use Rattle.zone_send.specs.declared.sending.error.SendError.{SendError}
 use Rattle.zone_send.specs.declared.sending.error.SendError.TheVariants as send_error
 use Rattle.zone_receive.specs.declared.error.ReceiveError.{ReceiveError}
 use Rattle.zone_receive.specs.declared.error.ReceiveError.TheVariants as receive_error
-use Rattle.dns_wire.specs.declared.text.FromStrError.{FromStrError}
-use Rattle.dns_wire.specs.declared.text.FromStrError.TheVariants as from_str_error
 use Rattle.zonewire.specs.declared.source.ReadAllError.{ReadAllError}
 use Rattle.zonewire.specs.declared.source.ReadAllError.TheVariants as read_all_error
-use Rattle.zonewire.specs.declared.command_line.WordsFault.{WordsFault}
-use Rattle.zonewire.specs.declared.command_line.WordsFault.TheVariants as words_fault
 use Rattle.zonewire.specs.declared.fault.Fault.{Fault}
 use Rattle.zonewire.specs.declared.fault.Fault.TheVariants.{Read, Zone, Send, Receive, OutOfMemory}
 
@@ -29,8 +25,3 @@ of_send error = Send error
 abbrev pub of_receive : ReceiveError → Fault
 of_receive receive_error.OutOfMemory = OutOfMemory
 of_receive error = Receive error
-
--- the same for a word of the command line that is read as a name
-abbrev pub of_name : FromStrError → WordsFault
-of_name (from_str_error.Presentation error) = words_fault.BadName
-of_name from_str_error.ShortBuf = words_fault.OutOfMemory

@@ -1,5 +1,3 @@
-pub mod Command
-pub mod Words
 pub mod Steps
 pub mod Stream
 pub mod Fault

@@ -18,8 +18,8 @@ use Rattle.zone_receive.specs.declared.error.ReceiveError.TheVariants as receive
 use Rattle.zone.specs.declared.zone_error.ZoneError.TheVariants as zone_error
 use Rattle.zone_send.specs.declared.sending.error.SendError.{SendError}
 use Rattle.zone_send.specs.declared.sending.error.SendError.TheVariants as send_error
-use Rattle.zonewire.specs.declared.jobs.Job.{Job}
-use Rattle.zonewire.specs.declared.jobs.Job.TheVariants as job
+use Rattle.zonewire_words.specs.declared.jobs.Job.{Job}
+use Rattle.zonewire_words.specs.declared.jobs.Job.TheVariants as job
 use Rattle.zonewire.specs.declared.fault.Fault.{Fault}
 use Rattle.zonewire.specs.declared.fault.Fault.TheVariants as fault
 

@@ -6,8 +6,8 @@ use Rattle.zone_records.specs.Record.{Record}
 use Rattle.zone_send.specs.SpelledSent.{IsNear}
 use Rattle.zone_core.specs.declared.spelling.Spelling.{Spelling}
 use Rattle.zone_core.specs.declared.spelling.Spelling.TheVariants.{Plain, Static, Tree, Hash}
-use Rattle.zonewire.specs.declared.jobs.Job.{Job}
-use Rattle.zonewire.specs.declared.jobs.Job.TheVariants.{Send, Receive, Check, Canon}
+use Rattle.zonewire_words.specs.declared.jobs.Job.{Job}
+use Rattle.zonewire_words.specs.declared.jobs.Job.TheVariants.{Send, Receive, Check, Canon}
 
 -- what is received of records that are sent under the spelling: the same records if names keep their case, otherwise
 -- records that are equal up to the ASCII case of owners and compressible names

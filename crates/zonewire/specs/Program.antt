@@ -3,11 +3,11 @@ use Rattle.std.specs.Prelude.{ℕ, List, Ok, Result, ⊤}
 use Rattle.std.specs.Borrow.{Bor}
 use Rattle.clap.specs.Walk.{Text, texts}
 use Rattle.clap.specs.Simple.{App}
-use Rattle.zonewire.specs.Command.{IsZonewire}
-use Rattle.zonewire.specs.Words.{Reads}
-use Rattle.zonewire.specs.declared.jobs.Job.{Job}
+use Rattle.zonewire_words.specs.Command.{IsZonewire}
+use Rattle.zonewire_words.specs.Words.{Reads}
+use Rattle.zonewire_words.specs.declared.jobs.Job.{Job}
 use Rattle.zonewire.specs.declared.fault.Fault.{Fault}
-use Rattle.zonewire.specs.declared.command_line.WordsFault.{WordsFault}
+use Rattle.zonewire_words.specs.declared.command_line.WordsFault.{WordsFault}
 use Rattle.zonewire.specs.declared.programs.Ending.{Ending}
 use Rattle.zonewire.specs.declared.programs.Ending.TheVariants as ending
 

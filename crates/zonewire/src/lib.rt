@@ -2,8 +2,8 @@
 //! its input and its output.
 //!
 //! This crate re-exports what the crates below it are for: `zone` (zones and their text), `zone_core` (queries),
-//! `zone_send` and `zone_receive` (the stream of a transfer), and the types that their signatures name. So a program
-//! that reads, sends or receives zones needs no other crate.
+//! `zone_send` and `zone_receive` (the stream of a transfer), `zonewire_words` (the command line), and the types that
+//! their signatures name. So a program that reads, sends or receives zones needs no other crate.
 //!
 //! ```
 //! let zone = Zone::read(alloc, text, None, Class::IN)?;
@@ -19,9 +19,7 @@
 //! query and takes the stream in pieces; `example_compare` compares two zones.
 #![tactic(auto)]
 
-mod command_line;
 mod fault;
-mod jobs;
 pub mod laws;
 mod programs;
 mod runs;
@@ -30,12 +28,10 @@ mod source;
 mod step_sink;
 mod step_source;
 
-pub use command_line::{WordsFault, job};
 pub use dns_name::{Class, Name, ParsedName, Rtype, Ttl};
 pub use dns_rdata::ZoneRecordData;
 pub use dns_text::DisplayKind;
 pub use fault::Fault;
-pub use jobs::Job;
 pub use programs::{Ending, program};
 pub use runs::run;
 pub use sink::{Sink, SinkError, StdSink};
@@ -46,3 +42,4 @@ pub use zone::{Zone, ZoneError, ZoneRecord, ZoneRecords};
 pub use zone_core::{Query, QueryError, axfr_query, check_query};
 pub use zone_receive::{ReceiveError, Receiver};
 pub use zone_send::{SendError, Spelling, send};
+pub use zonewire_words::{Job, WordsFault, job};

@@ -6,12 +6,12 @@ ghost use Rattle.zonewire.specs.Program.{AreRead, IfFailed, IfRefused, NameJob, 
 ghost use Rattle.zonewire.specs.Stream.{AppendsBeginning};
 ghost use Rattle.zonewire.specs.declared.fault.Fault.TheVariants as fault;
 
-use crate::command_line::{WordsFault, job};
 use crate::fault::Fault;
 use crate::runs::run;
 use crate::sink::Sink;
 use crate::source::Source;
 use std::alloc::Global;
+use zonewire_words::{WordsFault, job};
 
 /// How the program ends.
 #[derive(Debug, Drop)]

@@ -9,7 +9,6 @@ ghost use Rattle.zonewire.specs.Stream.{AppendsBeginning};
 ghost use Rattle.zonewire.specs.declared.fault.Fault.TheVariants as fault;
 
 use crate::fault::Fault;
-use crate::jobs::Job;
 use crate::sink::{Sink, write_all};
 use crate::source::{Source, read_all};
 use dns_name::{Class, Name};
@@ -19,6 +18,7 @@ use zone::{Zone, ZoneError};
 use zone_core::axfr_query;
 use zone_receive::{ReceiveError, Receiver};
 use zone_send::{Spelling, send};
+use zonewire_words::Job;
 
 /// Reads all the input, and writes the output of the job for it.
 ///

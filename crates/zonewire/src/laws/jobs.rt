@@ -4,7 +4,7 @@ ghost use Rattle.std.specs.Prelude.{◌≡◌, ◌≢◌, ℕ, List};
 ghost use Rattle.zonewire.specs.Output.{IsJobFault, IsOutput};
 ghost use Rattle.zonewire.specs.declared.fault.Fault.{Fault};
 ghost use Rattle.zonewire.specs.declared.fault.Fault.TheVariants as fault;
-ghost use Rattle.zonewire.specs.declared.jobs.Job.{Job};
+ghost use Rattle.zonewire_words.specs.declared.jobs.Job.{Job};
 
 /// A job has at most one output for an input, octet for octet, and at most one fault other than `OutOfMemory`, and never
 /// both.

@@ -15,7 +15,7 @@ ghost use Rattle.zone_core.specs.declared.spelling.Spelling.{Spelling};
 ghost use Rattle.zone.specs.View.{apex_of};
 ghost use Rattle.zonewire.specs.Output.{IsOutput};
 ghost use Rattle.zonewire.specs.Passed.{ArePassedBy, HasLawfulValues};
-ghost use Rattle.zonewire.specs.declared.jobs.Job.TheVariants as job;
+ghost use Rattle.zonewire_words.specs.declared.jobs.Job.TheVariants as job;
 
 use zone::laws::printed_text_is_the_zones;
 

@@ -3,7 +3,7 @@ use Rattle.std.specs.Prelude.{Err, IfErr}
 use Rattle.std.proofs.lemmas.Result.{err_from_is_err_and}
 use Rattle.zonewire.specs.Fault.{of_zone}
 use Rattle.zonewire.specs.Output.{IsJobFault}
-use Rattle.zonewire.specs.declared.jobs.Job.{Job}
+use Rattle.zonewire_words.specs.declared.jobs.Job.{Job}
 use Rattle.zonewire.proofs.Outputs.{send-text-fault, text-fault}
 use Rattle.zonewire.proofs.runs.output.Goals as goal
 

@@ -1,0 +1,6 @@
+mod Uses
+mod Rows
+mod Named
+mod Numbers
+mod Texts
+mod TriedWords
