@@ -10,6 +10,9 @@ use std::net::Ipv6Addr;
 /// Returns the address that the text writes in groups of hexadecimal digits.
 ///
 /// Texts of such groups alone are read here. Others, as those with an address of version 4 at their end, are read by std.
+///
+/// It is not inlined: the reader of a row is, and would grow by all of this for each record.
+#[inline(never)]
 pub(crate) fn colon_hex_in(text: &[u8]) -> Option<Ipv6Addr>
     ensures some { IfSome result (λ address. IsColonHex text.now (ipv6_segments address)) }
     ensures none { IfNone result ((segments : List ℕ) → IsColonHex text.now segments → ⊥) }
