@@ -18,3 +18,6 @@ pub mod Refused
 pub mod OneLabel
 pub mod HandedOn
 pub mod TakenTokens
+pub mod OneHead
+pub mod Heads
+mod FrequentWords

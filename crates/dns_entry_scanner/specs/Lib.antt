@@ -16,3 +16,5 @@ pub mod RowToken
 pub mod RowScanner
 pub mod AppendedName
 pub mod AppendedString
+pub mod RecordHead
+pub mod HeadWord

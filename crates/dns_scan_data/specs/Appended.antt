@@ -1,10 +1,8 @@
--- Fields and data that are scanned and appended to octets.
-use Rattle.std.specs.Prelude.{◌≡◌, ◌≤◌, ℕ, Bool, List, ◌++◌, length, map}
+-- Fields and their rows that are scanned and appended to octets.
+use Rattle.std.specs.Prelude.{◌≡◌, ℕ, List, ◌++◌, map}
 use Rattle.dns_scan.specs.Token.{Token}
 use Rattle.dns_fields.specs.Fields.{Field, Kind, field_octets, kind_of, octets}
 use Rattle.dns_fields.specs.Scanned.{ScansData, ScansField, ScansRow}
-use Rattle.dns_rdata.specs.Data.{Data, ScansAnyData, is_unknown}
-use Rattle.dns_rdata.specs.DataOctets.{data_octets}
 
 -- the new octets begin with the old ones
 pub record GoesOn (old new : List ℕ) : Type 0 where
@@ -30,11 +28,3 @@ pub record AppendsTyped (names : List ℕ → List (List ℕ) → Type 0) (rtype
   pub row : List Field
   pub scans : ScansData names rtype row tokens left
   pub behind : new ≡ old ++ octets row
-
--- the same of data of the type, unknown data or not, of at most 65,535 octets (RFC 1035 3.2.1)
-pub record AppendsData (names : List ℕ → List (List ℕ) → Type 0) (rtype : ℕ) (tokens left : List Token) (old new : List ℕ) (unknown : Bool) : Type 0 where
-  pub rdata : Data
-  pub scans : ScansAnyData names rtype rdata tokens left
-  pub short : length (data_octets rdata) ≤ 65535
-  pub behind : new ≡ old ++ data_octets rdata
-  pub unknown_is : unknown ≡ is_unknown rdata

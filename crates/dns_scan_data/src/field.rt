@@ -8,8 +8,8 @@ ghost use Rattle.dns_scan_data.specs.Appended.{AppendsField, GoesOn};
 
 use crate::colon_hex::colon_hex_in;
 use dns_entry_scanner::WireScanner;
+use dns_fields::{Compressible, HasField, ScanField, Tag, Uncompressed};
 use dns_name::{FromBuilder, ToName};
-use dns_rdata::rows::{Compressible, HasField, ScanField, Tag, Uncompressed};
 use dns_text::{CharStr, Scanner, ScannerError};
 use std::net::{Ipv4Addr, Ipv6Addr};
 

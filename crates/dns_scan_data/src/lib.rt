@@ -5,12 +5,14 @@
 #![tactic(auto)]
 
 mod colon_hex;
-mod data;
 mod field;
 mod hex;
 mod hex_piece;
 mod row;
+mod typed;
+mod unknown;
 
-pub use data::{scan_data_into, scan_unknown_octets_into};
 pub use field::ScanFieldInto;
 pub use row::ScanRowInto;
+pub use typed::scan_row_into;
+pub use unknown::scan_unknown_octets_into;

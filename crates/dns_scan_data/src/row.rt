@@ -7,8 +7,8 @@ ghost use Rattle.dns_scan_data.specs.Appended.{AppendsRow, GoesOn};
 use crate::ScanFieldInto;
 use crate::hex::scan_hex_into;
 use dns_entry_scanner::WireScanner;
+use dns_fields::{HasFields, Last, Rest16, Rest64, RestText, Row, ScanRow, Strings};
 use dns_name::FromBuilder;
-use dns_rdata::rows::{HasFields, Last, Rest16, Rest64, RestText, Row, ScanRow, Strings};
 use dns_text::{Scanner, ScannerError};
 
 /// A row that is scanned into octets.

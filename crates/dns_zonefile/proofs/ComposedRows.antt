@@ -13,14 +13,16 @@ use Rattle.dns_rdata.specs.DataOctets.{data_octets}
 use Rattle.dns_entry_scanner.specs.AppendedName.{AppendsName, HasBehind, SpellsNoName}
 use Rattle.dns_entry_scanner.specs.NameInText.{SpellsUnder}
 use Rattle.dns_scan.specs.Token.{Token, SameNames}
-use Rattle.dns_scan_data.specs.Appended.{AppendsData, GoesOn}
+use Rattle.dns_scan_data.specs.Appended.{GoesOn}
+use Rattle.dns_zonefile.specs.AppendedData.{AppendsData}
 use Rattle.dns_scan_data.proofs.Appending.{gone_by, gone_on}
 use Rattle.dns_text.specs.Rows.{TokenRow}
 use Rattle.dns_zonefile.specs.Composed.{HandsOn, composed_octets}
 use Rattle.dns_zonefile.specs.ComposedRow.{BeginsWithName, ComposesData, ComposesRecord, HasNoOwner, IsHandedOn, OwnerStands}
 use Rattle.dns_zonefile.specs.Entry.{Context, Entry, Enters, IsEntry}
 use Rattle.dns_zonefile.specs.Entry.Entry.{Resource}
-use Rattle.dns_zonefile.specs.Statement.{Directs, HasHead, HasOwner, IsDirective, Names, Says, Stated, Statement, StatesRecord}
+use Rattle.dns_entry_scanner.specs.RecordHead.{HasHead}
+use Rattle.dns_zonefile.specs.Statement.{Directs, HasOwner, IsDirective, Names, Says, Stated, Statement, StatesRecord}
 use Rattle.dns_zonefile.specs.Statement.Statement.{StateRecord}
 use Rattle.dns_zonefile.specs.declared.entry.ComposedEntry.TheVariants as composed
 use Rattle.dns_zonefile.specs.declared.entry_form.octets.ComposedRecord.{ComposedRecord}
@@ -29,7 +31,7 @@ use Rattle.dns_wire.specs.Flat.{IsWritten}
 use Rattle.dns_wire.proofs.Case.{wire_one}
 use Rattle.dns_wire.proofs.Flat.{flat-written}
 use Rattle.dns_zonefile.specs.Seen.{row_of}
-use Rattle.dns_zonefile.proofs.OneStatement.{one_head}
+use Rattle.dns_entry_scanner.proofs.OneHead.{one_head}
 use Rattle.dns_zonefile.proofs.Records.{number_is, one_rest, says_record}
 
 -- two octets before the data, written over

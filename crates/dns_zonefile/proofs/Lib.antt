@@ -1,6 +1,6 @@
 pub mod OneStatement
+pub mod AppendedData
 pub mod OneEntry
-pub mod Heads
 pub mod Directions
 pub mod Records
 pub mod PassedOver
@@ -16,4 +16,3 @@ mod Forms
 mod ComposedRows
 pub mod RecordFronts
 mod LastOwners
-mod FrequentWords

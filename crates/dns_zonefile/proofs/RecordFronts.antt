@@ -12,10 +12,11 @@ use Rattle.dns_zonefile.specs.ComposedRow.{BeginsWithName, HasNoOwner, OwnerStan
 use Rattle.dns_zonefile.specs.Entry.{Context}
 use Rattle.dns_zonefile.specs.RecordFront.{ComposesFront, IsFront}
 use Rattle.dns_zonefile.specs.Seen.{row_of}
-use Rattle.dns_zonefile.specs.Statement.{HasOwner, Names, States}
+use Rattle.dns_entry_scanner.specs.RecordHead.{States}
+use Rattle.dns_zonefile.specs.Statement.{HasOwner, Names}
 use Rattle.dns_zonefile.specs.Statement.HasOwner.{last, own}
 use Rattle.dns_zonefile.specs.declared.entry_form.front.ComposedFront.{ComposedFront}
-use Rattle.dns_zonefile.proofs.OneStatement.{one_class}
+use Rattle.dns_entry_scanner.proofs.OneHead.{one_class}
 use Rattle.dns_zonefile.proofs.Records.{one_rest}
 
 -- how many tokens an owner is

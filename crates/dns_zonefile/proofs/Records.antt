@@ -11,12 +11,13 @@ use Rattle.dns_rdata.proofs.PrintedData.{any_one}
 use Rattle.dns_rdata.proofs.ScanAny.{same_back, text_same}
 use Rattle.dns_zonefile.specs.Directive.{BeginsDirective}
 use Rattle.dns_zonefile.specs.Seen.{row_of}
-use Rattle.dns_zonefile.specs.Statement.{HasHead, HasOwner, Directs, IsDirective, Names, Says, Stated, Statement, StatesRecord}
+use Rattle.dns_entry_scanner.specs.RecordHead.{HasHead}
+use Rattle.dns_zonefile.specs.Statement.{HasOwner, Directs, IsDirective, Names, Says, Stated, Statement, StatesRecord}
 use Rattle.dns_zonefile.specs.Statement.Statement.{StateRecord}
 use Rattle.dns_zonefile.specs.Statement.HasOwner.{last, own}
 use Rattle.dns_zonefile.specs.Statement.Says.{directive, resource}
 use Rattle.dns_zonefile.proofs.Directions.{same_on}
-use Rattle.dns_zonefile.proofs.OneStatement.{one_head}
+use Rattle.dns_entry_scanner.proofs.OneHead.{one_head}
 
 -- whether the row is a directive
 pub is_directive : {blank_led : Bool} {tokens : List Token} → blank_led ≡ false → BeginsDirective tokens → IsDirective (row_of blank_led tokens)

@@ -1,9 +1,9 @@
 pub mod Statement
+pub mod AppendedData
 pub mod Entry
 pub mod Entries
 pub mod Seen
 pub mod Directive
-pub mod HeadWord
 pub mod Error
 pub mod Reader
 pub mod ReaderSeen

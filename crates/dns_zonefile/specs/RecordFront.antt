@@ -5,7 +5,8 @@ use Rattle.dns_label.specs.Name.{IsName, wire}
 use Rattle.dns_scan.specs.Token.{Token}
 use Rattle.dns_zonefile.specs.Entry.{Context}
 use Rattle.dns_zonefile.specs.Seen.{row_of}
-use Rattle.dns_zonefile.specs.Statement.{HasOwner, Names, States}
+use Rattle.dns_entry_scanner.specs.RecordHead.{States}
+use Rattle.dns_zonefile.specs.Statement.{HasOwner, Names}
 use Rattle.dns_zonefile.specs.declared.entry_form.front.ComposedFront.{ComposedFront}
 
 -- The tokens are those of a record before its type: an owner, unless the row begins with white space, and then a TTL and a class, each

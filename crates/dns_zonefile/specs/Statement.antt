@@ -1,12 +1,12 @@
 -- What a row of a zone file says by itself (RFC 1035 5.1, RFC 2308 4). Of the rows before it, only the origin of names
 -- counts.
-use Rattle.std.specs.Prelude.{◌≡◌, ◌^◌, ℕ, List, [], ◌∷◌, Option, Some, None, true, false, map, codes, ◌++◌}
-use Rattle.std.specs.List.{list_all}
-use Rattle.std.specs.Char.{is_ascii_digit, to_ascii_lowercase}
+use Rattle.std.specs.Prelude.{◌≡◌, ◌^◌, ℕ, List, [], ◌∷◌, Option, Some, None, true, false, map, codes}
+use Rattle.std.specs.Char.{to_ascii_lowercase}
 use Rattle.std.specs.Str.{IsAscii}
-use Rattle.dns_values.specs.Mnemonic.{class_read, number_spelled, type_read}
+use Rattle.dns_values.specs.Mnemonic.{number_spelled}
 use Rattle.dns_scan.specs.Token.{Token, IsWord, SpellsOctets, unquoted}
 use Rattle.dns_text.specs.Rows.{TokenRow}
+use Rattle.dns_entry_scanner.specs.RecordHead.{HasHead}
 use Rattle.dns_rdata.specs.Data.{Data, ScansAnyData, number_of}
 
 -- a record as a row states it: its owner, TTL and class, each if the row has it, and its data
@@ -52,42 +52,12 @@ pub data Directs (names : Names) : List Token → Statement → Type 0 where
       → IsDirectiveWord (codes "$include") word → token ≡ unquoted text → SpellsOctets path token → IsAscii path
       → names origin_text name → Directs names (word ∷ token ∷ unquoted origin_text ∷ []) (NameFile path (Some name))
 
--- a token of digits is a TTL; any other word is a type, and only if it is none, a class
-abbrev pub IsTtl : ℕ → Token → Type 0
-IsTtl seconds token = (text : List ℕ) × IsWord text token × (list_all is_ascii_digit text ≡ true)
-    × (number_spelled (2 ^ 32) text ≡ Some seconds)
-
-abbrev pub IsType : ℕ → Token → Type 0
-IsType rtype token = (text : List ℕ) × IsWord text token × (list_all is_ascii_digit text ≡ false) × (type_read text ≡ Some rtype)
-
-abbrev pub IsClass : ℕ → Token → Type 0
-IsClass class token = (text : List ℕ) × IsWord text token × (list_all is_ascii_digit text ≡ false) × (type_read text ≡ None)
-    × (class_read text ≡ Some class)
-
--- the tokens before a record's type: its TTL and its class, in either order, each stated or not
-pub data States : List Token → Option ℕ → Option ℕ → Type 0 where
-  nothing : States [] None None
-  ttl : {token : Token} {seconds : ℕ} → IsTtl seconds token → States (token ∷ []) (Some seconds) None
-  class : {token : Token} {number : ℕ} → IsClass number token → States (token ∷ []) None (Some number)
-  ttl_class : {first second : Token} {seconds number : ℕ} → IsTtl seconds first → IsClass number second
-      → States (first ∷ second ∷ []) (Some seconds) (Some number)
-  class_ttl : {first second : Token} {seconds number : ℕ} → IsClass number first → IsTtl seconds second
-      → States (first ∷ second ∷ []) (Some seconds) (Some number)
-
 -- The owner that a row states, and the tokens after it. A row that begins with white space states none: it has the last
 -- one.
 pub data HasOwner (names : Names) : TokenRow → Option (List (List ℕ)) → List Token → Type 0 where
   last : {tokens : List Token} → HasOwner names (record { blank_led = true; tokens = tokens }) None tokens
   own : {text : List ℕ} {name : List (List ℕ)} {tokens : List Token} → names text name
       → HasOwner names (record { blank_led = false; tokens = unquoted text ∷ tokens }) (Some name) tokens
-
--- the tokens begin with a TTL and a class, if they are stated, and a type, and these are left
-pub record HasHead (tokens : List Token) (ttl class : Option ℕ) (rtype : ℕ) (left : List Token) : Type 0 where
-  pub before : List Token
-  pub type_token : Token
-  pub is : tokens ≡ before ++ type_token ∷ left
-  pub states : States before ttl class
-  pub type_is : IsType rtype type_token
 
 -- The row is a record: its owner, what is stated, its type, and data of the type up to the row's end.
 pub record StatesRecord (names : Names) (row : TokenRow) (stated : Stated) : Type 0 where

@@ -18,6 +18,7 @@
 #![tactic(auto)]
 
 mod context;
+mod data;
 mod entry;
 mod entry_form;
 mod entry_reader;

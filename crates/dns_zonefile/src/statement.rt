@@ -7,17 +7,14 @@ ghost use Rattle.dns_zonefile.specs.Statement.{IsDirective, Says};
 ghost use Rattle.dns_zonefile.specs.Seen.{row_of, statement_of};
 
 mod directive;
-mod frequent_word;
-mod head;
 mod owner;
 
 use directive::is_directive;
 pub(crate) use directive::scan_directive;
-use dns_entry_scanner::EntryScanner;
+use dns_entry_scanner::{EntryScanner, scan_head};
 use dns_name::{Class, Octets, ToName, Ttl};
 use dns_rdata::ZoneRecordData;
 use dns_text::{Scanner, ScannerError};
-pub(crate) use head::{scan_head, scan_stated};
 pub(crate) use owner::scan_owner;
 
 /// A record as a row states it (RFC 1035 5.1).

@@ -125,6 +125,13 @@ impl Zonefile {
         self.context.origin.as_ref()
     }
 
+    /// Returns the owner of the last record that was read, if there was one. A row that begins with white space has it too.
+    pub fn last_owner(&self) -> Option<Name<&[u8]>>
+        ensures { result ≡ (reader_of self.now).context.owner }
+    {
+        self.context.owner.get()
+    }
+
     /// Returns the number of entries that were read: records, includes and directives. An entry that failed counts too.
     pub fn entry_number(&self) -> usize
         ensures { result ≡ entries_met self.now }

@@ -9,9 +9,9 @@ use Rattle.std.proofs.lemmas.Slice.Eq.{bytes_eq-Decides}
 use Rattle.dns_values.specs.Mnemonic.{Mnemonics, classes, class_read, number_behind, number_named, number_read, type_read}
 use Rattle.dns_scan.specs.Token.{Token}
 use Rattle.dns_field_texts.specs.TypeWords.{more_types, type_word_read}
-use Rattle.dns_zonefile.specs.Statement.{IsClass, IsTtl, States}
-use Rattle.dns_zonefile.specs.Statement.States.{nothing, ttl_class, class_ttl}
-use Rattle.dns_zonefile.specs.Statement.States.{ttl as ttl_alone, class as class_alone}
+use Rattle.dns_entry_scanner.specs.RecordHead.{IsClass, IsTtl, States}
+use Rattle.dns_entry_scanner.specs.RecordHead.States.{nothing, ttl_class, class_ttl}
+use Rattle.dns_entry_scanner.specs.RecordHead.States.{ttl as ttl_alone, class as class_alone}
 use Rattle.zone_general.specs.LongerRow.{IsNoTypeWord}
 use Rattle.zone_general.proofs.KnownWords.{begins_letter, behind_in, either, letter_alike, letter_no_digits, named_in, type_no_digits}
 

@@ -13,7 +13,8 @@ use Rattle.dns_zonefile.specs.Entry.Entry.{Resource}
 use Rattle.dns_zonefile.specs.Entry.Enters.{resource as enters_record}
 use Rattle.dns_zonefile.specs.RecordFront.{IsFront}
 use Rattle.dns_zonefile.specs.Seen.{row_of}
-use Rattle.dns_zonefile.specs.Statement.{HasOwner, Says, Stated, Statement, States, StatesRecord}
+use Rattle.dns_entry_scanner.specs.RecordHead.{States}
+use Rattle.dns_zonefile.specs.Statement.{HasOwner, Says, Stated, Statement, StatesRecord}
 use Rattle.dns_zonefile.specs.Statement.Says.{directive, resource}
 use Rattle.dns_zonefile.specs.Statement.Statement.{StateRecord}
 use Rattle.dns_zonefile.proofs.RecordFronts.{owner_before}

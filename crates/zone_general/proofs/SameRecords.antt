@@ -14,12 +14,13 @@ use Rattle.dns_rdata.specs.Data.{Data, ScansAnyData, typed, unknown_data, number
 use Rattle.dns_field_texts.specs.TypeWords.{type_word_read}
 use Rattle.dns_entry_scanner.specs.NameInText.{SpellsUnder}
 use Rattle.dns_zonefile.specs.Entry.{Context, Entry, Enters, IsEntry}
-use Rattle.dns_zonefile.specs.Statement.{HasOwner, IsClass, IsDirective, IsTtl, IsType, Names, Says, Stated, Statement, States, StatesRecord}
+use Rattle.dns_entry_scanner.specs.RecordHead.{IsClass, IsTtl, IsType, States}
+use Rattle.dns_zonefile.specs.Statement.{HasOwner, IsDirective, Names, Says, Stated, Statement, StatesRecord}
 use Rattle.dns_zonefile.specs.Statement.HasOwner.{last as last_owner, own as own_owner}
 use Rattle.dns_zonefile.specs.Statement.Says.{directive, resource}
 use Rattle.dns_zonefile.specs.Statement.Statement.{StateRecord}
-use Rattle.dns_zonefile.specs.Statement.States.{nothing, ttl_class, class_ttl}
-use Rattle.dns_zonefile.specs.Statement.States.{ttl as ttl_alone, class as class_alone}
+use Rattle.dns_entry_scanner.specs.RecordHead.States.{nothing, ttl_class, class_ttl}
+use Rattle.dns_entry_scanner.specs.RecordHead.States.{ttl as ttl_alone, class as class_alone}
 use Rattle.zone_general.specs.LongerRow.{HasFront, IsNoTypeWord, IsTypeWord}
 use Rattle.zone_general.specs.LongerRow.HasFront.{last, own}
 use Rattle.zone_general.proofs.KnownWords.{type_no_digits}

@@ -13,8 +13,7 @@ ghost use Rattle.dns_zonefile.specs.Seen.{context_of};
 
 use super::octets::{append_owner, owner_in};
 use crate::context::Context;
-use crate::statement::scan_stated;
-use dns_entry_scanner::{EntryError, InlineName, RowScanner, TokenSpan};
+use dns_entry_scanner::{EntryError, InlineName, RowScanner, TokenSpan, scan_stated};
 use dns_name::{Class, Ttl};
 use std::alloc::Global;
 

@@ -20,11 +20,11 @@ ghost use Rattle.dns_zonefile.specs.Statement.{IsDirective, Says, Statement};
 
 use super::EntryForm;
 use crate::context::Context;
-use crate::statement::{begins_directive, scan_directive, scan_head};
+use crate::data::scan_data_into;
+use crate::statement::{begins_directive, scan_directive};
 use crate::{ComposedEntry, Entry, IncludedFile};
-use dns_entry_scanner::{EntryError, InlineName, RowScanner, TokenSpan, WireScanner};
+use dns_entry_scanner::{EntryError, InlineName, RowScanner, TokenSpan, WireScanner, scan_head};
 use dns_name::{Class, Composer, Name, Rtype, ToName, Ttl};
-use dns_scan_data::scan_data_into;
 use dns_text::Scanner;
 use std::alloc::Global;
 

@@ -3,6 +3,7 @@ use dns_name::{AppendError, Class, ComposeRecordData, Name, ToName};
 use dns_zonefile::{ComposedEntry, Entry, Error, ScannedRecord, Zonefile};
 use rows::{Answer, Row, RowError};
 use std::alloc::Global;
+use std::fmt::Display;
 
 /// Answers steps of a reader without a text.
 pub fn answer(alloc: Global, row: &mut Row<'_>, out: &mut Answer) -> Result<(), RowError> {
@@ -149,7 +150,8 @@ fn take_steps(
     Ok(())
 }
 
-/// Takes a step: `text` and a text, `origin` and octets, `class` and a number, `next`, `pass`, `number`.
+/// Takes a step: `text` and a text, `origin` and octets, `class` and a number, `next`, `pass`, `number`, `place`, `origin-now`,
+/// `owner-now`.
 fn take_step(
     alloc: Global,
     zonefile: &mut Zonefile,
@@ -182,11 +184,17 @@ fn take_step(
         },
         "number" => out.shown(&zonefile.entry_number()),
         "place" => out.shown(&zonefile.place()),
-        "origin-now" => match zonefile.origin() {
-            Some(origin) => out.shown(origin),
-            None => out.shown(&"none"),
-        },
+        "origin-now" => show_name(zonefile.origin(), out),
+        "owner-now" => show_name(zonefile.last_owner().as_ref(), out),
         _ => Err(RowError::BadWord),
+    }
+}
+
+/// Writes a name, or `none`.
+fn show_name<N: Display>(name: Option<&N>, out: &mut Answer) -> Result<(), RowError> {
+    match name {
+        Some(name) => out.shown(name),
+        None => out.shown(&"none"),
     }
 }
 

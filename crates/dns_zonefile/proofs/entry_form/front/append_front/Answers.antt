@@ -1,7 +1,7 @@
 use Rattle.std.proofs.Common.{◌≤◌, ◌-◌, ℕ, arith, sym, subst, take}
 use Rattle.dns_entry_scanner.specs.RowScanner.{tokens_of}
 use Rattle.dns_entry_scanner.proofs.HandedOn.{handed_on}
-use Rattle.dns_zonefile.specs.Statement.{States}
+use Rattle.dns_entry_scanner.specs.RecordHead.{States}
 use Rattle.dns_zonefile.proofs.RecordFronts.{composes_front, no_owner_among, owners, owners_are, unclassed, unstated}
 use Rattle.dns_zonefile.proofs.entry_form.front.append_front.Goals as goal
 

@@ -2,7 +2,8 @@ use Rattle.std.proofs.Common.{◌≡◌, ◌<◌, ◌-◌, [], ℕ, List, length
 use Rattle.dns_name.specs.Remembered.{patched}
 use Rattle.dns_entry_scanner.specs.RowScanner.{origin_of}
 use Rattle.dns_entry_scanner.proofs.HandedOn.{handed_on}
-use Rattle.dns_scan_data.proofs.Appending.{gone_same, went}
+use Rattle.dns_scan_data.proofs.Appending.{gone_same}
+use Rattle.dns_zonefile.proofs.AppendedData.{went}
 use Rattle.dns_wire.proofs.Flat.{always_on_err}
 use Rattle.dns_zonefile.proofs.ComposedRows.{composes_data, fits_two, has_room, has_two}
 use Rattle.dns_zonefile.proofs.Directions.{ended}

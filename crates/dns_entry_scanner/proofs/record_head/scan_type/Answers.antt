@@ -1,0 +1,8 @@
+use Rattle.std.proofs.lemmas.Result.{err_from_is_err_and}
+use Rattle.dns_entry_scanner.proofs.Heads.{no_word}
+use Rattle.dns_entry_scanner.proofs.record_head.scan_type.Goals as goal
+
+pub returns-in_err-rtype-clause-err : goal.returns-in_err-rtype-clause-err
+returns-in_err-rtype-clause-err g c =
+    let p = err_from_is_err_and c.from_residual.result c.from_residual.ensures.1 in
+    rw (p.1, p.2) (λ short rtype left head. no_word (c.in_err-rtype.ensures.err short) head)
