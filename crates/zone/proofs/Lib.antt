@@ -1,4 +1,6 @@
 pub mod LastRecord
+mod LastOwner
+mod Keeping
 pub mod ReadRecords
 pub mod ZoneForms
 mod ReadZoneData

@@ -35,11 +35,12 @@ use Rattle.dns_entry_scanner.specs.NameInText.SpellsUnder.{absolute}
 use Rattle.dns_zonefile.specs.Entry.{Context, IsEntry}
 use Rattle.dns_zonefile.specs.Entry.Entry.{Resource}
 use Rattle.dns_zonefile.specs.Entry.Enters.{resource as enters_record}
-use Rattle.dns_zonefile.specs.Statement.{IsClass, IsTtl, IsType, Stated, StatesRecord}
+use Rattle.dns_entry_scanner.specs.RecordHead.{IsClass, IsTtl, IsType}
+use Rattle.dns_zonefile.specs.Statement.{Stated, StatesRecord}
 use Rattle.dns_zonefile.specs.Statement.HasOwner.{own}
 use Rattle.dns_zonefile.specs.Statement.Says.{resource}
 use Rattle.dns_zonefile.specs.Statement.Statement.{StateRecord}
-use Rattle.dns_zonefile.specs.Statement.States.{ttl_class}
+use Rattle.dns_entry_scanner.specs.RecordHead.States.{ttl_class}
 use Rattle.zone_records.specs.Record.{Record}
 use Rattle.zone_records.specs.Records.{IsRecordOf}
 use Rattle.zone.proofs.HeadWords.{IsHeadText, class_is_no_type, class_word, name_no_dollar, name_written, type_word}

@@ -1,7 +1,7 @@
 pub mod Seen
 pub mod View
 pub mod Reading
-pub mod KeptLaws
+pub mod Kept
 pub mod ZoneText
 pub mod Printed
 pub mod Unknown

@@ -1,7 +1,7 @@
 -- How far a zone's text has been read, and the rules that a record may break. Of the calls of this crate that others see, only the contract of
 -- `check_record` names it; `zone_tool` names it for each fault of a text.
 use Rattle.std.specs.Prelude.{◌≡◌, ◌≢◌, ◌++◌, ℕ, Bool, true, Option, Some, None, Result, Ok, List, [], ◌∷◌, length, IfSome}
-use Rattle.dns_label.specs.Name.{IsName}
+use Rattle.dns_label.specs.Name.{IsName, wire}
 use Rattle.dns_header.specs.Record.{RecordOf}
 use Rattle.dns_rdata.specs.Data.{Data, is_unknown}
 use Rattle.dns_rdata.specs.Fields.{IsData}
@@ -52,6 +52,11 @@ AppendsNext reader old (Some told) new octets =
 abbrev pub apex_in : List Record → Option (List (List ℕ))
 apex_in [] = None
 apex_in (soa ∷ others) = Some soa.owner
+
+-- the number of octets of the name, or 0 if there is none
+abbrev pub name_len : Option (List (List ℕ)) → ℕ
+name_len None = 0
+name_len (Some name) = length (wire name)
 
 -- the octets begin with a record of this owner, or there are none
 abbrev pub BeginWith : Option (List (List ℕ)) → List ℕ → Type 0

@@ -1,20 +1,20 @@
 //! The records of a zone's text, parsed in place (RFC 1035 5).
-ghost use Rattle.std.specs.Prelude.{◌≡◌, ◌≢◌, ◌<◌, ◌++◌, [], ℕ, List, Option, Some, None, Ok, true, false, length, option_copied, IfOk, IfErr, IfSome, OnOk};
+ghost use Rattle.std.specs.Prelude.{◌≡◌, ◌≢◌, ◌<◌, [], ℕ, List, Option, Some, None, Ok, true, false, length, option_copied, IfOk, IfErr, IfSome, OnOk};
 ghost use Rattle.std.specs.List.{push};
-ghost use Rattle.dns_label.specs.Name.{IsName};
+ghost use Rattle.dns_label.specs.Name.{IsName, wire};
 ghost use Rattle.dns_zonefile.specs.Reader.{Gives, left_of};
 ghost use Rattle.dns_zonefile.specs.ReaderSeen.{reader_of, refused_in};
-ghost use Rattle.zone_records.specs.MessageRecord.{IsRecord, record_octets};
 ghost use Rattle.dns_rdata.specs.Fields.{IsData};
 ghost use Rattle.zone_records.specs.Record as spec;
 ghost use Rattle.zone_records.specs.Records.{AreRecordsOf};
 ghost use Rattle.zone_records.specs.Zone.{any_class};
 ghost use Rattle.zone.specs.ZoneText.{IsWellTyped, IsZoneFault, IsZoneText};
-ghost use Rattle.zone.specs.Reading.{BreaksRule, IsCheckFault, AppendsNext, HasRead, MayStandUnder, StandsLast, reader_at};
+ghost use Rattle.zone.specs.Kept.{Keeps};
+ghost use Rattle.zone.specs.Reading.{BeginWith, BreaksRule, IsCheckFault, AppendsNext, HasRead, MayStandUnder, StandsLast, name_len, reader_at};
 
 use crate::ZoneError;
-use crate::keep::{Count, Keeper, Places};
-use dns_name::{Class, Name, ToName, first_name};
+use crate::keep::Keeper;
+use dns_name::{Class, Name, ToName};
 use dns_zonefile::{ComposedEntry, Zonefile};
 use std::alloc::{AllocError, Global};
 use zone_records::checks::{is_data_of_type, is_spellable};
@@ -36,12 +36,10 @@ pub(crate) fn read_records(
     ensures known { IfOk result (AreRecordsOf class) }
     ensures err { IfErr result (IsZoneFault text.items (option_copied origin.entry) class) }
 {
-    let mut places = Places {
-        places: Vec::new(alloc),
-    };
-    let octets = read_all(alloc, text, origin, class, &mut places)?;
+    let mut keeper = Keeper::of_all(alloc);
+    let octets = read_all(alloc, text, origin, class, &mut keeper)?;
     are_octets(&octets);
-    Ok(RecordList::from_octets(octets, places.places))
+    Ok(RecordList::from_octets(octets, keeper.places))
 }
 
 /// Returns the number of records in the text of a zone of the class. Names are relative to the origin, if there is one.
@@ -59,26 +57,27 @@ pub(crate) fn count_records(
         × (count ≡ length records)) }
     ensures err { IfErr result (IsZoneFault text.items (option_copied origin.entry) class) }
 {
-    let mut counter = Count { count: 0 };
-    let _first = read_all(alloc, text, origin, class, &mut counter)?;
-    Ok(counter.count)
+    let mut keeper = Keeper::of_first(alloc);
+    let _first = read_all(alloc, text, origin, class, &mut keeper)?;
+    Ok(keeper.count)
 }
 
 /// Reads the records of the text of a zone of the class. Returns the octets of those that the keeper keeps. Names are
 /// relative to the origin, if there is one.
 ///
 /// Fails with the first rule that is broken, or with `OutOfMemory` if out of memory.
-fn read_all<K: Keeper>(
+fn read_all(
     alloc: Global,
     text: Vec<u8>,
     origin: Option<&Name<&[u8]>>,
     class: Class,
-    keeper: &mut K,
+    keeper: &mut Keeper,
 ) -> Result<Vec<u8>, ZoneError>
     requires known { class ≢ any_class }
-    requires empty { K.keeps keeper.old [] [] }
+    requires empty { Keeps keeper.old [] [] }
     ensures ok { IfOk result (λ octets. (records : List spec.Record) × IsZoneText text.items (option_copied origin.entry) class records
-        × K.keeps keeper.new octets.items records) }
+        × Keeps keeper.new octets.items records) }
+    ensures kind { OnOk result (keeper.new.first_only ≡ keeper.old.first_only) }
     ensures err { IfErr result (IsZoneFault text.items (option_copied origin.entry) class) }
 {
     let mut zonefile = zonefile_of(alloc, text, origin, class)?;
@@ -116,34 +115,48 @@ pub fn zonefile_of(
 /// Reads the next record, and returns whether there was one.
 ///
 /// Fails with the first rule that is broken, or with `OutOfMemory` if out of memory.
-fn read_next<K: Keeper>(
+fn read_next(
     alloc: Global,
     zonefile: &mut Zonefile,
     octets: &mut Vec<u8>,
-    keeper: &mut K,
+    keeper: &mut Keeper,
 ) -> Result<bool, ZoneError>
     requires unrefused { refused_in zonefile.old ≡ None }
     requires read { (text : List ℕ) × (origin : Option (List (List ℕ))) × (class : ℕ) × (records : List spec.Record)
-        × HasRead text origin class (reader_of zonefile.old) records × K.keeps keeper.old octets.old.items records }
+        × HasRead text origin class (reader_of zonefile.old) records × Keeps keeper.old octets.old.items records }
     ensures unrefused { OnOk result (refused_in zonefile.new ≡ None) }
     ensures more { result ≡ Ok true → (text : List ℕ) (origin : Option (List (List ℕ))) (class : ℕ) (records : List spec.Record)
-        → HasRead text origin class (reader_of zonefile.old) records → K.keeps keeper.old octets.old.items records
+        → HasRead text origin class (reader_of zonefile.old) records → Keeps keeper.old octets.old.items records
         → (r : spec.Record) × HasRead text origin class (reader_of zonefile.new) (push records r)
-        × K.keeps keeper.new octets.new.items (push records r) }
+        × Keeps keeper.new octets.new.items (push records r) }
+    ensures kind { OnOk result (keeper.new.first_only ≡ keeper.old.first_only) }
     ensures shorter { result ≡ Ok true → length (left_of (reader_of zonefile.new)) < length (left_of (reader_of zonefile.old)) }
     ensures end { result ≡ Ok false → Gives (reader_of zonefile.old) (Ok None) (reader_of zonefile.new)
         × (octets.new.items ≡ octets.old.items) × (keeper.new ≡ keeper.old) }
     ensures err { IfErr result (λ error. (text : List ℕ) (origin : Option (List (List ℕ))) (class : ℕ) (records : List spec.Record)
-        → HasRead text origin class (reader_of zonefile.old) records → K.keeps keeper.old octets.old.items records
+        → HasRead text origin class (reader_of zonefile.old) records → Keeps keeper.old octets.old.items records
         → IsZoneFault text origin class error) }
 {
     let place = octets.len();
     let Some(unknown) = append_next(zonefile, octets)? else {
         return Ok(false);
     };
-    check_last(alloc, octets, place, unknown, zonefile.entry_number())?;
-    keeper.keep(octets, place)?;
+    let owner_len = last_owner_len(zonefile);
+    let apex_len = keeper.apex_len;
+    let number = zonefile.entry_number();
+    check_last(alloc, octets, place, apex_len, owner_len, unknown, number)?;
+    keeper.keep(octets, place, owner_len)?;
     Ok(true)
+}
+
+/// Returns the number of octets of the last record's owner, or 0 if there was no record.
+fn last_owner_len(zonefile: &Zonefile) -> usize
+    ensures { result ≡ name_len (reader_of zonefile.now).context.owner }
+{
+    match zonefile.last_owner() {
+        Some(owner) => owner.len(),
+        None => 0,
+    }
 }
 
 /// Appends the octets of the next record. Returns whether the text writes its data in the form of unknown data, or None
@@ -167,25 +180,29 @@ fn append_next(zonefile: &mut Zonefile, octets: &mut Vec<u8>) -> Result<Option<b
     }
 }
 
-/// Checks the record at the place, with the number of its entry. Fails if it breaks a rule of the zone whose records
-/// come before it, or if out of memory, which only unknown data takes.
+/// Checks the record at the place, with the number of its entry. The apex and the record's owner have these numbers of
+/// octets; the first is 0 if there is no apex yet.
+///
+/// Fails if it breaks a rule of the zone whose records come before it, or if out of memory, which only unknown data takes.
 fn check_last(
     alloc: Global,
     octets: &[u8],
     place: usize,
+    apex_len: usize,
+    owner_len: usize,
     unknown: bool,
     number: usize,
 ) -> Result<(), ZoneError>
-    requires { (apex : Option (List (List ℕ))) × (r : spec.Record) × StandsLast octets.now place apex r
-        × (unknown ≡ false → IsData r.rtype r.rdata) }
+    requires { (apex : Option (List (List ℕ))) × (r : spec.Record) × StandsLast octets.now place apex r × (apex_len ≡ name_len apex)
+        × (owner_len ≡ length (wire r.owner)) × (unknown ≡ false → IsData r.rtype r.rdata) }
     ensures ok { OnOk result ((apex : Option (List (List ℕ))) (r : spec.Record) → StandsLast octets.now place apex r
-        → IsWellTyped r × MayStandUnder apex r) }
+        → apex_len ≡ name_len apex → IsWellTyped r × MayStandUnder apex r) }
     ensures err { IfErr result (λ error. (apex : Option (List (List ℕ))) (r : spec.Record) → StandsLast octets.now place apex r
-        → IsCheckFault unknown number apex r error) }
+        → apex_len ≡ name_len apex → IsCheckFault unknown number apex r error) }
 {
     let (before, record) = octets.split_at(place);
-    let record = Record::from_octets(record);
-    check_record(alloc, apex_of(before), &record, unknown, number)
+    let record = Record::with_owner_len(record, owner_len);
+    check_record(alloc, apex_of(before, apex_len), &record, unknown, number)
 }
 
 /// Checks a record, with the number of its entry. Fails if it breaks a rule of the zone with this apex, or cannot be a
@@ -225,6 +242,15 @@ fn check_data(
     if !unknown {
         return Ok(());
     }
+    check_unknown_data(alloc, record, number)
+}
+
+/// Checks data in the form of unknown data. Few records have it, so this is not inlined.
+#[inline(never)]
+fn check_unknown_data(alloc: Global, record: &Record<'_>, number: usize) -> Result<(), ZoneError>
+    ensures ok { OnOk result (IsData «record».now.rtype «record».now.rdata) }
+    ensures err { IfErr result (λ error. (apex : Option (List (List ℕ))) → IsCheckFault true number apex «record».now error) }
+{
     if is_data_of_type(alloc, record.rtype(), record.data())? {
         Ok(())
     } else {
@@ -259,14 +285,14 @@ fn check_place(
     Ok(())
 }
 
-/// Returns the owner of the first of the records that these octets are, if there is one.
-fn apex_of(octets: &[u8]) -> Option<Name<&[u8]>>
-    requires { octets.now ≢ [] → (r : spec.Record) × (rest : List ℕ) × IsRecord r × (octets.now ≡ record_octets r ++ rest) }
-    ensures none { octets.now ≡ [] → result ≡ None }
-    ensures some { (r : spec.Record) (rest : List ℕ) → IsRecord r → octets.now ≡ record_octets r ++ rest → result ≡ Some r.owner }
+/// Returns the owner of the first of the records that these octets are, which has this number of them; or None if the
+/// number is 0.
+fn apex_of(octets: &[u8], len: usize) -> Option<Name<&[u8]>>
+    requires { (apex : Option (List (List ℕ))) × BeginWith apex octets.now × (len ≡ name_len apex) }
+    ensures { (apex : Option (List (List ℕ))) → BeginWith apex octets.now → len ≡ name_len apex → result ≡ apex }
 {
-    if octets.is_empty() {
+    if len == 0 {
         return None;
     }
-    Some(first_name(octets))
+    Some(Name::from_octets_unchecked(&octets[..len]))
 }

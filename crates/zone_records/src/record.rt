@@ -1,6 +1,6 @@
 //! Resource records in wire format.
-ghost use Rattle.std.specs.Prelude.{◌≡◌, ◌==◌, ◌↔◌, IsTrue};
-ghost use Rattle.dns_label.specs.Name.{IsName, low};
+ghost use Rattle.std.specs.Prelude.{◌≡◌, ◌==◌, ◌↔◌, IsTrue, length};
+ghost use Rattle.dns_label.specs.Name.{IsName, low, wire};
 ghost use Rattle.dns_message.specs.Record.{IsRecord, record_octets};
 ghost use Rattle.dns_wire.specs.Suffix.{EndsWith};
 ghost use Rattle.zone_records.specs.Record as spec;
@@ -47,6 +47,15 @@ impl<'a> Record<'a> {
             octets,
             owner_len: first_name(octets).len(),
         }
+    }
+
+    /// Returns the record whose octets these are, as `from_octets` does, without reading its owner. The caller knows how
+    /// many of them are the owner.
+    pub fn with_owner_len(octets: &'a [u8], owner_len: usize) -> Record<'a>
+        requires { (r : spec.Record) × IsRecord r × (octets.now ≡ record_octets r) × (owner_len ≡ length (wire r.owner)) }
+        ensures { (r : spec.Record) → IsRecord r → octets.now ≡ record_octets r → result ≡ r }
+    {
+        Record { octets, owner_len }
     }
 
     /// Returns the octets of the whole record, every name in full.

@@ -14,7 +14,8 @@ use Rattle.dns_entry_scanner.specs.NameInText.{SpellsUnder}
 use Rattle.zone.specs.Entries.{AreEntries}
 use Rattle.zone.specs.Entry.{Context, Enters, Entry}
 use Rattle.zone.specs.Entry.Entry.{Directive, Include, Resource}
-use Rattle.zone.specs.Statement.{Directs, HasOwner, IsTtl, Says, Statement, States}
+use Rattle.dns_entry_scanner.specs.RecordHead.{IsTtl, States}
+use Rattle.zone.specs.Statement.{Directs, HasOwner, Says, Statement}
 use Rattle.zone.specs.Statement.Statement.{NameFile, SetOrigin, SetTtl, StateRecord}
 use Rattle.zone_records.specs.Record.{Record}
 use Rattle.zone_records.specs.Records.{AreSendable, IsSendable}

@@ -1,14 +1,19 @@
-use Rattle.std.proofs.Common.{◌≡◌, ◌==◌, ℕ, List, true, false, length, ap, ◌∙◌, Some}
-use Rattle.zone_records.proofs.RecordFronts.{behind_owner, record_regrouped}
+use Rattle.std.proofs.Common.{◌≢◌, arith, sym, ◌∙◌}
+use Rattle.zone.proofs.LastRecord.{apex_is, apex_long, apex_written, no_apex}
 use Rattle.zone.proofs.read.apex_of.Goals as goal
 
-pub first_name-requires : goal.first_name-requires
-first_name-requires c =
-    let found = c.requires (λ none.
-    let bad : false ≡ true = c.if-is_empty.ensures ∙ ap (λ (l : List ℕ). length l == 0) none in
-    let no : ⊥ = cc in no) in
-    (found.0.owner, behind_owner found.0 found.1, found.2.owner, found.3 ∙ record_regrouped found.0 found.1)
+pub slice_bounds-from_octets_unchecked-end : goal.slice_bounds-from_octets_unchecked-end
+slice_bounds-from_octets_unchecked-end c = apex_long c.requires.0 _ c.requires.1 c.requires.2
 
-pub returns-clause-some : goal.returns-clause-some
-returns-clause-some c = λ r rest is whole.
-    ap Some (c.first_name.ensures r.owner (behind_owner r rest) is.owner (whole ∙ record_regrouped r rest))
+pub from_octets_unchecked-requires : goal.from_octets_unchecked-requires
+from_octets_unchecked-requires c =
+    let some : c.args.len ≢ 0 = λ none. absurd (omega arith) in
+    apex_written c.requires.0 _ c.requires.1 c.requires.2 some
+
+pub returns-then-len-eq0 : goal.returns-then-len-eq0
+returns-then-len-eq0 c = λ apex begin long. no_apex apex (sym long ∙ c.if-len-eq0.true)
+
+pub returns : goal.returns
+returns c = λ apex begin long.
+    let some : c.args.len ≢ 0 = λ none. absurd (omega arith) in
+    apex_is apex _ begin long some _ c.from_octets_unchecked.ensures

@@ -1,48 +1,44 @@
-use Rattle.std.proofs.Common.{◌≡◌, ◌≢◌, ◌++◌, [], ℕ, List, sym, subst}
+use Rattle.std.proofs.Common.{sym, subst}
 use Rattle.std.proofs.lemmas.Result.{IfErr-weaker, on_ok_weaker}
 use Rattle.dns_rdata.specs.Fields.{IsData}
-use Rattle.zone_records.specs.MessageRecord.{IsRecord, record_octets}
 use Rattle.zone_records.specs.Record as spec
 use Rattle.zone.specs.ZoneText.{IsWellTyped}
 use Rattle.zone.specs.Reading.{BeginWith, IsCheckFault, MayStandUnder}
-use Rattle.zone.proofs.LastRecord.{apex_found, back_is, begin_some, front_is, place_within}
+use Rattle.zone.proofs.LastRecord.{back_is, front_is, place_within}
 use Rattle.zone.proofs.read.check_last.Goals as goal
 
 pub split_at-requires : goal.split_at-requires
 split_at-requires c = place_within c.requires.2
 
-pub from_octets-record-requires : goal.from_octets-record-requires
-from_octets-record-requires c =
-    let stands = c.requires.2 in (c.requires.1, stands.is, back_is _ stands c.split_at.ensures.back)
+pub with_owner_len-record-requires : goal.with_owner_len-record-requires
+with_owner_len-record-requires c =
+    let stands = c.requires.2 in (c.requires.1, stands.is, back_is _ stands c.split_at.ensures.back, c.requires.4)
 
 pub apex_of-requires : goal.apex_of-requires
 apex_of-requires c =
     let stands = c.requires.2 in
-    subst (λ o. o ≢ [] → (r : spec.Record) × (rest : List ℕ) × IsRecord r × (o ≡ record_octets r ++ rest)) (sym (front_is _ stands c.split_at.ensures.front))
-    (begin_some c.requires.0 stands.before stands.begin)
+    (c.requires.0, subst (BeginWith c.requires.0) (sym (front_is _ stands c.split_at.ensures.front)) stands.begin, c.requires.3)
 
 pub check_record-requires : goal.check_record-requires
 check_record-requires c = λ bare.
     let stands = c.requires.2 in
-    let same = c.from_octets-record.ensures c.requires.1 stands.is (back_is _ stands c.split_at.ensures.back) in
-    subst (λ (r : spec.Record). IsData r.rtype r.rdata) (sym same) (c.requires.3 bare)
+    let same = c.with_owner_len-record.ensures c.requires.1 stands.is (back_is _ stands c.split_at.ensures.back) in
+    subst (λ (r : spec.Record). IsData r.rtype r.rdata) (sym same) (c.requires.5 bare)
 
 pub returns-clause-ok : goal.returns-clause-ok
 returns-clause-ok c =
-    on_ok_weaker c.check_record.result (λ kept apex r stands.
-    let front = front_is _ stands c.split_at.ensures.front in
-    let begin = subst (BeginWith apex) (sym front) stands.begin in
-    let found = apex_found apex c.apex_of.result _ begin c.apex_of.ensures.none c.apex_of.ensures.some in
-    let same = c.from_octets-record.ensures r stands.is (back_is _ stands c.split_at.ensures.back) in
+    on_ok_weaker c.check_record.result (λ kept apex r stands long.
+    let begin = subst (BeginWith apex) (sym (front_is _ stands c.split_at.ensures.front)) stands.begin in
+    let found = c.apex_of.ensures apex begin long in
+    let same = c.with_owner_len-record.ensures r stands.is (back_is _ stands c.split_at.ensures.back) in
     subst (λ a. IsWellTyped r × MayStandUnder a r) found
     (subst (λ x. IsWellTyped x × MayStandUnder c.apex_of.result x) same kept)) c.check_record.ensures.ok
 
 pub returns-clause-err : goal.returns-clause-err
 returns-clause-err c =
-    IfErr-weaker c.check_record.result _ _ (λ error broken apex r stands.
-    let front = front_is _ stands c.split_at.ensures.front in
-    let begin = subst (BeginWith apex) (sym front) stands.begin in
-    let found = apex_found apex c.apex_of.result _ begin c.apex_of.ensures.none c.apex_of.ensures.some in
-    let same = c.from_octets-record.ensures r stands.is (back_is _ stands c.split_at.ensures.back) in
+    IfErr-weaker c.check_record.result _ _ (λ error broken apex r stands long.
+    let begin = subst (BeginWith apex) (sym (front_is _ stands c.split_at.ensures.front)) stands.begin in
+    let found = c.apex_of.ensures apex begin long in
+    let same = c.with_owner_len-record.ensures r stands.is (back_is _ stands c.split_at.ensures.back) in
     subst (λ a. IsCheckFault c.args.unknown c.args.number a r error) found
     (subst (λ x. IsCheckFault c.args.unknown c.args.number c.apex_of.result x error) same broken)) c.check_record.ensures.err
