@@ -26,10 +26,7 @@ pub(crate) fn is_colored(rt: &HostRuntime, choice: ColorChoice) -> bool {
 
 /// Returns whether the environment has a `NO_COLOR` that is not empty.
 fn forbids_colors(rt: &HostRuntime) -> bool {
-    match env::var(rt, "NO_COLOR") {
-        Ok(value) => !value.is_empty(),
-        Err(_) => false,
-    }
+    env::var(rt, "NO_COLOR").is_ok_and(|value| !value.is_empty())
 }
 
 /// Returns the lines of a difference with colours: those that begin with `-` in red, and those with `+` in green. Fails if
@@ -37,10 +34,7 @@ fn forbids_colors(rt: &HostRuntime) -> bool {
 pub(crate) fn colored_difference(alloc: Global, lines: &[u8]) -> Result<Vec<u8>, AllocError> {
     let mut out = Vec::new(alloc);
     for line in lines.split_inclusive(|&octet| octet == b'\n') {
-        let style = match line.first() {
-            Some(b'-') => RED,
-            _ => GREEN,
-        };
+        let style = if line.starts_with(b"-") { RED } else { GREEN };
         let text = line.strip_suffix(b"\n").unwrap_or(line);
         out.extend_from_slice(style.as_bytes())?;
         out.extend_from_slice(text)?;

@@ -1,8 +1,9 @@
 //! Why a text is no zone's, with data of further types.
 
-use crate::finding_text::{line_end, line_start};
-use dns_name::{Class, Name};
+use crate::finding_text::line_start;
+use dns_entry_scanner::{line_end, next_line};
 use std::alloc::{AllocError, Global};
+use tool_words::Reading;
 use zone_explain::explain::{Finding, Located, Reason, explain, explain_all};
 use zone_forms::general_rows;
 
@@ -13,20 +14,20 @@ use zone_forms::general_rows;
 pub(crate) fn findings_of(
     alloc: Global,
     text: &[u8],
-    origin: Option<&Name<&[u8]>>,
-    class: Class,
+    reading: &Reading,
     all: bool,
 ) -> Result<Vec<Finding>, AllocError> {
-    let findings = plain_findings(alloc, text, origin, class, all)?;
+    let findings = plain_findings(alloc, text, reading, all)?;
     if findings.is_empty() {
         return Ok(findings);
     }
-    let general = general_rows(alloc, text, origin, class)?;
+    let origin = reading.origin_ref();
+    let general = general_rows(alloc, text, origin.as_ref(), reading.class)?;
     if general.as_slice() == text {
         return Ok(findings);
     }
     drop(findings);
-    let mut findings = plain_findings(alloc, &general, origin, class, all)?;
+    let mut findings = plain_findings(alloc, &general, reading, all)?;
     let mut line = LinePlace {
         number: 1,
         start: 0,
@@ -48,15 +49,15 @@ pub(crate) fn findings_of(
 fn plain_findings(
     alloc: Global,
     text: &[u8],
-    origin: Option<&Name<&[u8]>>,
-    class: Class,
+    reading: &Reading,
     all: bool,
 ) -> Result<Vec<Finding>, AllocError> {
+    let origin = reading.origin_ref();
     if all {
-        return explain_all(alloc, text, origin, class);
+        return explain_all(alloc, text, origin.as_ref(), reading.class);
     }
     let mut findings = Vec::new(alloc);
-    if let Some(finding) = explain(alloc, text, origin, class)? {
+    if let Some(finding) = explain(alloc, text, origin.as_ref(), reading.class)? {
         findings.push(finding)?;
     }
     Ok(findings)
@@ -74,7 +75,7 @@ impl LinePlace {
     fn go_to(self, text: &[u8], number: usize) -> LinePlace {
         let mut start = self.start;
         for _ in self.number..number {
-            start = line_end(text, start).saturating_add(1);
+            start = next_line(text, start.min(text.len()));
         }
         for _ in number..self.number {
             start = line_start(text, start.saturating_sub(1));

@@ -35,19 +35,17 @@ impl<'a> Fault<'a> {
 
     /// Returns why the text of the file is not rewritten.
     pub(crate) fn of_form(file: &'a str, error: FormError) -> Fault<'a> {
-        if error == FormError::OutOfMemory {
-            Fault::OutOfMemory
-        } else {
-            Fault::Form(file, error)
+        match error {
+            FormError::OutOfMemory => Fault::OutOfMemory,
+            error => Fault::Form(file, error),
         }
     }
 
     /// Returns why the text of the file is not read as a zone.
     pub(crate) fn of_zone(file: &'a str, error: ZoneError) -> Fault<'a> {
-        if error == ZoneError::OutOfMemory {
-            Fault::OutOfMemory
-        } else {
-            Fault::Zone(file, error)
+        match error {
+            ZoneError::OutOfMemory => Fault::OutOfMemory,
+            error => Fault::Zone(file, error),
         }
     }
 }

@@ -1,8 +1,9 @@
 //! A finding as text.
 
-ghost use Rattle.std.specs.Prelude.{◌≤◌, length};
+ghost use Rattle.std.specs.Prelude.{◌≤◌};
 
 use crate::color::{BOLD, PLAIN, RED};
+use dns_entry_scanner::line_end;
 use dns_field_texts::{DisplayType, read_type};
 use dns_name::Rtype;
 use std::alloc::{AllocError, Global};
@@ -66,18 +67,6 @@ pub(crate) fn line_start(text: &[u8], offset: usize) -> usize
     {
         Some(feed) => feed + 1,
         None => 0,
-    }
-}
-
-/// Returns the offset after the last octet of the line of an offset.
-pub(crate) fn line_end(text: &[u8], offset: usize) -> usize
-    ensures within { result ≤ length text.now }
-    ensures behind { offset ≤ length text.now → offset ≤ result }
-{
-    let start = offset.min(text.len());
-    match text[start..].iter().position(|&octet| octet == b'\n') {
-        Some(feed) => start + feed,
-        None => text.len(),
     }
 }
 

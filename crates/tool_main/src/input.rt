@@ -1,8 +1,7 @@
 //! The text of zones, from files or standard input.
 
 use crate::fault::Fault;
-use crate::progress::{is_told, tell, wipe};
-use dns_name::{Class, Name};
+use crate::progress::{tell, wipe};
 use std::alloc::Global;
 use std::fs;
 use std::fs::File;
@@ -22,18 +21,15 @@ pub(crate) fn read_text<'a>(rt: &HostRuntime, file: &'a str) -> Result<Vec<u8>, 
     } else {
         fs::read(rt, file)
     };
-    match text {
-        Ok(text) => Ok(text),
-        Err(error) => Err(Fault::of_read(file, error)),
-    }
+    text.map_err(|error| Fault::of_read(file, error))
 }
 
 /// A zone that was read from a file.
 #[derive(Drop)]
 pub(crate) struct ZoneRead {
     pub(crate) zone: Zone,
-    /// Whether work on it is told.
-    pub(crate) is_told: bool,
+    /// The number of octets of its text.
+    pub(crate) text_len: usize,
 }
 
 /// Reads the zone whose text is in the file, or in standard input if the file is `-`. Data of further types is read in
@@ -44,44 +40,25 @@ pub(crate) fn read_zone<'a>(
     reading: &Reading,
 ) -> Result<ZoneRead, Fault<'a>> {
     let text = read_text(rt, file)?;
-    let told = is_told(rt, text.len());
-    if told {
-        tell(rt, "checking", file);
-    }
-    let zone = match &reading.origin {
-        Some(name) => {
-            let name = name.for_ref();
-            zone_of(rt.alloc(), text, Some(&name), reading.class)
-        }
-        None => zone_of(rt.alloc(), text, None, reading.class),
-    };
-    if told {
-        wipe(rt);
-    }
-    match zone {
-        Ok(zone) => Ok(ZoneRead {
-            zone,
-            is_told: told,
-        }),
-        Err(error) => Err(Fault::of_zone(file, error)),
-    }
+    let text_len = text.len();
+    let is_told = tell(rt, text_len, "checking", file);
+    let zone = zone_of(rt.alloc(), text, reading);
+    wipe(rt, is_told);
+    let zone = zone.map_err(|error| Fault::of_zone(file, error))?;
+    Ok(ZoneRead { zone, text_len })
 }
 
 /// Returns the zone of the text. Only if an entry does not read, the text is read once more, with the data of further types in
 /// general form. Its entries keep their numbers.
-fn zone_of(
-    alloc: Global,
-    text: Vec<u8>,
-    origin: Option<&Name<&[u8]>>,
-    class: Class,
-) -> Result<Zone, ZoneError> {
-    match Zone::read(alloc, &text, origin, class) {
+fn zone_of(alloc: Global, text: Vec<u8>, reading: &Reading) -> Result<Zone, ZoneError> {
+    let origin = reading.origin_ref();
+    match Zone::read(alloc, &text, origin.as_ref(), reading.class) {
         Err(ZoneError::Text(_)) => {}
         read => return read,
     }
-    let general = general_rows(alloc, &text, origin, class)?;
+    let general = general_rows(alloc, &text, origin.as_ref(), reading.class)?;
     drop(text);
-    Zone::from_text(alloc, general, origin, class)
+    Zone::from_text(alloc, general, origin.as_ref(), reading.class)
 }
 
 /// Returns the text of the file, or of standard input if the file is `-`, as the rewriter puts it. The text is read in pieces.
@@ -93,10 +70,8 @@ pub(crate) fn rewritten_file<'a>(
     if file == STANDARD_INPUT {
         return rewritten_input(rt.alloc(), file, &mut rt.stdin(), rewriter);
     }
-    match File::open(rt, file) {
-        Ok(mut input) => rewritten_input(rt.alloc(), file, &mut input, rewriter),
-        Err(error) => Err(Fault::of_read(file, error)),
-    }
+    let mut input = File::open(rt, file).map_err(|error| Fault::of_read(file, error))?;
+    rewritten_input(rt.alloc(), file, &mut input, rewriter)
 }
 
 /// Returns the text of the input, which is the file's, as the rewriter puts it.
@@ -107,22 +82,12 @@ fn rewritten_input<'a, R: Read>(
     mut rewriter: Rewriter,
 ) -> Result<Vec<u8>, Fault<'a>> {
     let mut out = Vec::new(alloc);
-    let mut long = Vec::new(alloc);
-    let mut input = match BufReader::with_capacity(alloc, PIECE_LEN, input) {
-        Ok(input) => input,
-        Err(error) => return Err(Fault::of_read(file, error)),
-    };
+    let buffered = BufReader::with_capacity(alloc, PIECE_LEN, input);
+    let mut input = buffered.map_err(|error| Fault::of_read(file, error))?;
     for _ in 0..u64::MAX {
         let waiting = rewriter.pending();
         let fed = if waiting > PIECE_LEN {
-            feed_long(
-                file,
-                &mut input,
-                waiting,
-                &mut long,
-                &mut rewriter,
-                &mut out,
-            )?
+            feed_long(alloc, file, &mut input, waiting, &mut rewriter, &mut out)?
         } else {
             feed_buffer(file, &mut input, &mut rewriter, &mut out)?
         };
@@ -154,19 +119,17 @@ fn feed_buffer<'a, R: BufRead>(
 
 /// Feeds as many octets of the input as wait for the rest of their row, or fewer at its end, where it returns false.
 fn feed_long<'a, R: Read>(
+    alloc: Global,
     file: &'a str,
     input: &mut R,
     len: usize,
-    piece: &mut Vec<u8>,
     rewriter: &mut Rewriter,
     out: &mut Vec<u8>,
 ) -> Result<bool, Fault<'a>> {
-    piece.clear();
-    match input.take(len as u64).read_to_end(piece) {
-        Ok(_) => {}
-        Err(error) => return Err(Fault::of_read(file, error)),
-    }
-    in_file(file, rewriter.feed(piece, out))?;
+    let mut piece = Vec::new(alloc);
+    let read = input.take(len as u64).read_to_end(&mut piece);
+    read.map_err(|error| Fault::of_read(file, error))?;
+    in_file(file, rewriter.feed(&piece, out))?;
     Ok(piece.len() == len)
 }
 
@@ -175,8 +138,5 @@ pub(crate) fn in_file<'a, T>(
     file: &'a str,
     rewritten: Result<T, FormError>,
 ) -> Result<T, Fault<'a>> {
-    match rewritten {
-        Ok(value) => Ok(value),
-        Err(error) => Err(Fault::of_form(file, error)),
-    }
+    rewritten.map_err(|error| Fault::of_form(file, error))
 }

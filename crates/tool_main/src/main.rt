@@ -56,7 +56,7 @@ fn status_of(rt: &HostRuntime, given: &[String]) -> u8 {
         Ok(task) => task,
         Err(fault) => return refuse(rt, &fault),
     };
-    match perform(rt, &task) {
+    match perform(rt, task) {
         Ok(true) => 0,
         Ok(false) => DIFFERENCE,
         Err(fault) => report(rt, &fault),

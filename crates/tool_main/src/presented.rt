@@ -2,9 +2,10 @@
 ghost use Rattle.std.specs.Prelude.{◌≤◌, length};
 
 use crate::fault::Fault;
+use crate::input::in_file;
 use dns_name::Class;
 use dns_text::DisplayKind;
-use std::alloc::Global;
+use std::alloc::{AllocError, Global};
 use zone::Zone;
 use zone_forms::{FormError, present};
 use zone_tool::sorted;
@@ -22,9 +23,8 @@ pub(crate) fn presented_difference(
             continue;
         };
         let record = present(alloc, record, None, class, DisplayKind::Simple)?;
-        if out.push(sign).is_err() || out.extend_from_slice(&record).is_err() {
-            return Err(FormError::OutOfMemory);
-        }
+        out.push(sign).map_err(AllocError::from)?;
+        out.extend_from_slice(&record)?;
     }
     Ok(out)
 }
@@ -40,17 +40,13 @@ pub(crate) fn presented_sorted<'a>(
     let presented = match layout {
         DisplayKind::Multiline => {
             let lines = sorted(alloc, zone, DisplayKind::Simple)?;
-            match Zone::read(alloc, &lines, None, class) {
-                Ok(zone) => presented_records(alloc, &lines, &sorted(alloc, zone, layout)?, class),
-                Err(error) => return Err(Fault::of_zone(file, error)),
-            }
+            let read = Zone::read(alloc, &lines, None, class);
+            let zone = read.map_err(|error| Fault::of_zone(file, error))?;
+            presented_records(alloc, &lines, &sorted(alloc, zone, layout)?, class)
         }
         _ => present(alloc, &sorted(alloc, zone, layout)?, None, class, layout),
     };
-    match presented {
-        Ok(text) => Ok(text),
-        Err(error) => Err(Fault::of_form(file, error)),
-    }
+    in_file(file, presented)
 }
 
 /// Returns records, which are a line each, in several lines: those with data of further types with their fields, and the others
@@ -72,9 +68,7 @@ fn presented_records(
         } else {
             shown.as_slice()
         };
-        if out.extend_from_slice(text).is_err() {
-            return Err(FormError::OutOfMemory);
-        }
+        out.extend_from_slice(text)?;
     }
     Ok(out)
 }

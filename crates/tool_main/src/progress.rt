@@ -8,18 +8,19 @@ const LONG_TEXT: usize = 32 << 20;
 /// Goes back to the start of the line and wipes it (ECMA-48 8.3.41).
 const WIPE: &str = "\r\x1b[K";
 
-/// Returns whether work on texts of this length altogether is told: if standard error is a terminal, and it takes about a
-/// second or more.
-pub(crate) fn is_told(rt: &HostRuntime, octets: usize) -> bool {
-    octets >= LONG_TEXT && rt.stderr().is_terminal()
+/// Tells on standard error what is done with the file, in place of what was told before, if standard error is a terminal and
+/// work on a text of this length takes about a second or more. Returns whether it does.
+pub(crate) fn tell(rt: &HostRuntime, octets: usize, doing: &str, file: &str) -> bool {
+    let is_told = octets >= LONG_TEXT && rt.stderr().is_terminal();
+    if is_told {
+        let _ = eprint!(rt; "{WIPE}zonetool: {doing} {file}");
+    }
+    is_told
 }
 
-/// Tells on standard error what is done with the file, in place of what was told before.
-pub(crate) fn tell(rt: &HostRuntime, doing: &str, file: &str) {
-    let _ = eprint!(rt; "{WIPE}zonetool: {doing} {file}");
-}
-
-/// Wipes what was told last.
-pub(crate) fn wipe(rt: &HostRuntime) {
-    let _ = eprint!(rt; "{WIPE}");
+/// Wipes what was told last, if something was.
+pub(crate) fn wipe(rt: &HostRuntime, is_told: bool) {
+    if is_told {
+        let _ = eprint!(rt; "{WIPE}");
+    }
 }

@@ -6,7 +6,7 @@ use crate::fault::Fault;
 use crate::finding_text::finding_text;
 use crate::input::{ZoneRead, in_file, read_text, read_zone, rewritten_file};
 use crate::presented::{presented_difference, presented_sorted};
-use crate::progress::{is_told, tell, wipe};
+use crate::progress::{tell, wipe};
 use crate::table::table_of;
 use dns_text::DisplayKind;
 use std::io::Write;
@@ -15,41 +15,50 @@ use zone_forms::{Form, Rewriter};
 use zone_tool::{Selection, difference, framed_query, sorted};
 
 /// Performs the task. Returns false if it writes a difference, or why a text is no zone's.
-pub(crate) fn perform<'a>(rt: &HostRuntime, task: &Task<'a>) -> Result<bool, Fault<'a>> {
+pub(crate) fn perform<'a>(rt: &HostRuntime, task: Task<'a>) -> Result<bool, Fault<'a>> {
     match task {
         Task::Explain {
             file,
             reading,
             all,
             color,
-        } => explain_file(rt, *file, reading, *all, *color),
+        } => explain_file(rt, file, &reading, all, color),
         Task::Diff {
             old,
             new,
             reading,
-            selection,
+            without,
+            ignore_ttl,
+            ignore_serial,
             present,
             color,
-        } => diff_files(rt, *old, *new, reading, selection, *present, *color),
+        } => {
+            let selection = Selection {
+                without,
+                ignore_ttl,
+                ignore_serial,
+            };
+            diff_files(rt, old, new, &reading, &selection, present, color)
+        }
         Task::Sort {
             file,
             reading,
             present,
             layout,
-        } => sort_file(rt, *file, reading, *present, *layout),
+        } => sort_file(rt, file, &reading, present, layout),
         Task::Stats {
             file,
             reading,
             present,
-        } => count_file(rt, *file, reading, *present),
-        Task::General { file, reading } => rewrite_file(rt, *file, reading, Form::General),
+        } => count_file(rt, file, &reading, present),
+        Task::General { file, reading } => rewrite_file(rt, file, &reading, Form::General),
         Task::Present {
             file,
             reading,
             layout,
-        } => rewrite_file(rt, *file, reading, Form::Presentation(*layout)),
+        } => rewrite_file(rt, file, &reading, Form::Presentation(layout)),
         Task::Query { apex, class, id } => {
-            let query = framed_query(rt.alloc(), *id, *class, &apex.for_ref())?;
+            let query = framed_query(rt.alloc(), id, class, &apex.for_ref())?;
             write_all(rt, query.as_slice())?;
             Ok(true)
         }
@@ -65,17 +74,9 @@ fn explain_file<'a>(
     color: ColorChoice,
 ) -> Result<bool, Fault<'a>> {
     let text = read_text(rt, file)?;
-    let told = is_told(rt, text.len());
-    if told {
-        tell(rt, "checking", file);
-    }
-    let findings = match &reading.origin {
-        Some(name) => findings_of(rt.alloc(), &text, Some(&name.for_ref()), reading.class, all),
-        None => findings_of(rt.alloc(), &text, None, reading.class, all),
-    };
-    if told {
-        wipe(rt);
-    }
+    let is_told = tell(rt, text.len(), "checking", file);
+    let findings = findings_of(rt.alloc(), &text, reading, all);
+    wipe(rt, is_told);
     let findings = findings?;
     let colored = is_colored(rt, color);
     let mut shown = Vec::new(rt.alloc());
@@ -99,14 +100,10 @@ fn diff_files<'a>(
 ) -> Result<bool, Fault<'a>> {
     let before = read_zone(rt, old, reading)?;
     let after = read_zone(rt, new, reading)?;
-    let is_told = before.is_told || after.is_told;
-    if is_told {
-        tell(rt, "comparing with", new);
-    }
+    let len = before.text_len.max(after.text_len);
+    let is_told = tell(rt, len, "comparing with", new);
     let lines = difference(rt.alloc(), &before.zone, &after.zone, selection);
-    if is_told {
-        wipe(rt);
-    }
+    wipe(rt, is_told);
     let lines = if presents {
         let lines = presented_difference(rt.alloc(), &lines?, reading.class);
         in_file(new, lines)?
@@ -129,10 +126,8 @@ fn sort_file<'a>(
     presents: bool,
     layout: DisplayKind,
 ) -> Result<bool, Fault<'a>> {
-    let ZoneRead { zone, is_told } = read_zone(rt, file, reading)?;
-    if is_told {
-        tell(rt, "sorting", file);
-    }
+    let ZoneRead { zone, text_len } = read_zone(rt, file, reading)?;
+    let is_told = tell(rt, text_len, "sorting", file);
     let text = if presents {
         presented_sorted(rt.alloc(), file, zone, layout)
     } else {
@@ -141,9 +136,7 @@ fn sort_file<'a>(
             Err(error) => Err(Fault::from(error)),
         }
     };
-    if is_told {
-        wipe(rt);
-    }
+    wipe(rt, is_told);
     write_all(rt, text?.as_slice())?;
     Ok(true)
 }
@@ -156,13 +149,9 @@ fn count_file<'a>(
     all_mnemonics: bool,
 ) -> Result<bool, Fault<'a>> {
     let read = read_zone(rt, file, reading)?;
-    if read.is_told {
-        tell(rt, "counting", file);
-    }
+    let is_told = tell(rt, read.text_len, "counting", file);
     let table = table_of(rt.alloc(), &read.zone, all_mnemonics);
-    if read.is_told {
-        wipe(rt);
-    }
+    wipe(rt, is_told);
     write_all(rt, table?.as_bytes())?;
     Ok(true)
 }
@@ -174,19 +163,14 @@ fn rewrite_file<'a>(
     reading: &Reading,
     form: Form,
 ) -> Result<bool, Fault<'a>> {
-    let rewriter = match &reading.origin {
-        Some(name) => Rewriter::new(rt.alloc(), form, Some(&name.for_ref()), reading.class),
-        None => Rewriter::new(rt.alloc(), form, None, reading.class),
-    };
-    let text = rewritten_file(rt, file, rewriter?)?;
+    let origin = reading.origin_ref();
+    let rewriter = Rewriter::new(rt.alloc(), form, origin.as_ref(), reading.class)?;
+    let text = rewritten_file(rt, file, rewriter)?;
     write_all(rt, text.as_slice())?;
     Ok(true)
 }
 
 /// Writes the octets to standard output.
 fn write_all<'a>(rt: &HostRuntime, octets: &[u8]) -> Result<(), Fault<'a>> {
-    match rt.stdout().write_all(octets) {
-        Ok(()) => Ok(()),
-        Err(_) => Err(Fault::Write),
-    }
+    rt.stdout().write_all(octets).map_err(|_| Fault::Write)
 }

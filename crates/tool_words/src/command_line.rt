@@ -12,7 +12,6 @@ use dns_name::{Class, FromStrError, Name, Rtype, ToName, ToRelativeName};
 use dns_text::{DisplayKind, UncertainName};
 use std::alloc::{AllocError, Global};
 use thiserror::Error;
-use zone_tool::Selection;
 
 /// Why a command line names no task.
 #[derive(Debug, Drop, Error)]
@@ -110,16 +109,13 @@ fn diff_task<'a>(alloc: Global, options: &ArgMatches<'a>) -> Result<Task<'a>, Wo
         return Err(WordsFault::InputTwice);
     }
     let reading = reading(alloc, options)?;
-    let selection = Selection {
-        without: left_out(alloc, options)?,
-        ignore_ttl: options.get_flag("ignore-ttl"),
-        ignore_serial: options.get_flag("ignore-serial"),
-    };
     Ok(Task::Diff {
         old,
         new,
         reading,
-        selection,
+        without: left_out(alloc, options)?,
+        ignore_ttl: options.get_flag("ignore-ttl"),
+        ignore_serial: options.get_flag("ignore-serial"),
         present: options.get_flag("present"),
         color: color(options),
     })
@@ -273,126 +269,135 @@ fn layout(options: &ArgMatches<'_>) -> DisplayKind {
 }
 
 fn command<'a>(alloc: Global) -> Result<Command<'a>, AllocError> {
-    let explain = explain_command(alloc)?;
-    let diff = diff_command(alloc)?;
-    let sort = sort_command(alloc)?;
-    let stats = stats_command(alloc)?;
-    let query = query_command(alloc)?;
-    let general = general_command(alloc)?;
-    let present = present_command(alloc)?;
-    Command::new(alloc, "zonetool")
+    let bare = Command::new(alloc, "zonetool")
         .about(
             "Checks, compares, sorts, counts and rewrites DNS zones, and asks for their transfers",
         )
         .version("0.1.0")
         .subcommand_required(true)
-        .disable_help_subcommand(true)
-        .subcommand(explain)?
-        .subcommand(diff)?
-        .subcommand(sort)?
-        .subcommand(stats)?
-        .subcommand(query)?
-        .subcommand(general)?
-        .subcommand(present)
+        .disable_help_subcommand(true);
+    let zonetool = with_subcommand(bare, explain_command(alloc))?;
+    let zonetool = with_subcommand(zonetool, diff_command(alloc))?;
+    let zonetool = with_subcommand(zonetool, sort_command(alloc))?;
+    let zonetool = with_subcommand(zonetool, stats_command(alloc))?;
+    let zonetool = with_subcommand(zonetool, query_command(alloc))?;
+    let zonetool = with_subcommand(zonetool, general_command(alloc))?;
+    with_subcommand(zonetool, present_command(alloc))
+}
+
+/// Adds the subcommand. Fails as it did, or if out of memory.
+fn with_subcommand<'a>(
+    command: Command<'a>,
+    subcommand: Result<Command<'a>, AllocError>,
+) -> Result<Command<'a>, AllocError> {
+    // A `?` in `command` itself would have to drop the command that it makes, and each such drop makes its proof longer.
+    command.subcommand(subcommand?)
 }
 
 fn explain_command<'a>(alloc: Global) -> Result<Command<'a>, AllocError> {
-    let bare = Command::new(alloc, "explain").about("Says why a zone is refused");
-    with_text_options(alloc, bare)?
-        .arg(argument(alloc, "file", "FILE").help("The zone, - or left out for standard input"))?
-        .arg(flag(alloc, "all").help("Each fault is told, not only the first"))?
-        .arg(color_option(alloc))
+    let arguments = vec![in alloc;
+        origin_option(alloc),
+        class_option(alloc),
+        file_argument(alloc),
+        flag(alloc, "all").help("Each fault is told, not only the first"),
+        color_option(alloc),
+    ]?;
+    Command::new(alloc, "explain")
+        .about("Says why a zone is refused")
+        .args(arguments)
 }
 
 fn diff_command<'a>(alloc: Global) -> Result<Command<'a>, AllocError> {
-    let bare = Command::new(alloc, "diff").about("Prints what changed between two zones");
-    with_text_options(alloc, bare)?
-        .arg(
-            argument(alloc, "old", "OLD")
-                .required(true)
-                .help("The old zone, - for standard input"),
-        )?
-        .arg(
-            argument(alloc, "new", "NEW")
-                .required(true)
-                .help("The new zone, - for standard input"),
-        )?
-        .arg(
-            option(alloc, "without", "TYPE")
-                .action(ArgAction::Append)
-                .help("A type whose records are not compared; may be given again"),
-        )?
-        .arg(flag(alloc, "ignore-ttl").help("TTLs are not compared"))?
-        .arg(flag(alloc, "ignore-serial").help("The SOA's serial is not compared"))?
-        .arg(present_flag(alloc))?
-        .arg(color_option(alloc))
+    let arguments = vec![in alloc;
+        origin_option(alloc),
+        class_option(alloc),
+        required(alloc, "old", "OLD").help("The old zone, - for standard input"),
+        required(alloc, "new", "NEW").help("The new zone, - for standard input"),
+        option(alloc, "without", "TYPE")
+            .action(ArgAction::Append)
+            .help("A type whose records are not compared; may be given again"),
+        flag(alloc, "ignore-ttl").help("TTLs are not compared"),
+        flag(alloc, "ignore-serial").help("The SOA's serial is not compared"),
+        present_flag(alloc),
+        color_option(alloc),
+    ]?;
+    Command::new(alloc, "diff")
+        .about("Prints what changed between two zones")
+        .args(arguments)
 }
 
 fn sort_command<'a>(alloc: Global) -> Result<Command<'a>, AllocError> {
-    let bare = Command::new(alloc, "sort").about("Prints a zone in canonical order");
-    with_text_options(alloc, bare)?
-        .arg(argument(alloc, "file", "FILE").help("The zone, - or left out for standard input"))?
-        .arg(present_flag(alloc))?
-        .arg(
-            option(alloc, "layout", "LAYOUT")
-                .value_parser(LAYOUTS)
-                .help("How the text is laid out"),
-        )
+    let arguments = vec![in alloc;
+        origin_option(alloc),
+        class_option(alloc),
+        file_argument(alloc),
+        present_flag(alloc),
+        layout_option(alloc).help("How the text is laid out"),
+    ]?;
+    Command::new(alloc, "sort")
+        .about("Prints a zone in canonical order")
+        .args(arguments)
 }
 
 fn stats_command<'a>(alloc: Global) -> Result<Command<'a>, AllocError> {
-    let bare = Command::new(alloc, "stats").about(
-        "Prints the numbers of a zone and of its transfer",
-    );
-    with_text_options(alloc, bare)?
-        .arg(argument(alloc, "file", "FILE").help("The zone, - or left out for standard input"))?
-        .arg(flag(alloc, "present").help("Types are named by all mnemonics"))
+    let arguments = vec![in alloc;
+        origin_option(alloc),
+        class_option(alloc),
+        file_argument(alloc),
+        flag(alloc, "present").help("Types are named by all mnemonics"),
+    ]?;
+    Command::new(alloc, "stats")
+        .about("Prints the numbers of a zone and of its transfer")
+        .args(arguments)
 }
 
 fn query_command<'a>(alloc: Global) -> Result<Command<'a>, AllocError> {
+    let arguments = vec![in alloc;
+        required(alloc, "apex", "APEX").help("The zone's name"),
+        option(alloc, "origin", "NAME").help("The origin of a name without a last dot"),
+        class_option(alloc),
+        option(alloc, "id", "NUMBER")
+            .value_parser(value_parser!(u16))
+            .help("The query's ID, 0 where left out"),
+    ]?;
     Command::new(alloc, "query")
         .about("Writes the query for a zone's transfer after its length")
-        .arg(
-            argument(alloc, "apex", "APEX")
-                .required(true)
-                .help("The zone's name"),
-        )?
-        .arg(option(alloc, "origin", "NAME").help("The origin of a name without a last dot"))?
-        .arg(option(alloc, "class", "CLASS").help("The zone's class, IN where left out"))?
-        .arg(
-            option(alloc, "id", "NUMBER")
-                .value_parser(value_parser!(u16))
-                .help("The query's ID, 0 where left out"),
-        )
+        .args(arguments)
 }
 
 fn general_command<'a>(alloc: Global) -> Result<Command<'a>, AllocError> {
-    let bare = Command::new(alloc, "general").about(
-        "Prints a zone's text with further types in the general form",
-    );
-    with_text_options(alloc, bare)?.arg(argument(alloc, "file", "FILE").help(
-        "The zone, - or left out for standard input",
-    ))
+    let arguments = vec![in alloc;
+        origin_option(alloc),
+        class_option(alloc),
+        file_argument(alloc),
+    ]?;
+    Command::new(alloc, "general")
+        .about("Prints a zone's text with further types in the general form")
+        .args(arguments)
 }
 
 fn present_command<'a>(alloc: Global) -> Result<Command<'a>, AllocError> {
-    let bare = Command::new(alloc, "present").about(
-        "Prints a zone's text with further types in their own forms",
-    );
-    with_text_options(alloc, bare)?
-        .arg(argument(alloc, "file", "FILE").help("The zone, - or left out for standard input"))?
-        .arg(
-            option(alloc, "layout", "LAYOUT")
-                .value_parser(LAYOUTS)
-                .help("How the data is laid out"),
-        )
+    let arguments = vec![in alloc;
+        origin_option(alloc),
+        class_option(alloc),
+        file_argument(alloc),
+        layout_option(alloc).help("How the data is laid out"),
+    ]?;
+    Command::new(alloc, "present")
+        .about("Prints a zone's text with further types in their own forms")
+        .args(arguments)
 }
 
-/// Adds the options for reading zone text.
-fn with_text_options<'a>(alloc: Global, command: Command<'a>) -> Result<Command<'a>, AllocError> {
-    command
-        .arg(option(alloc, "origin", "NAME").help("The origin of relative names"))?
-        .arg(option(alloc, "class", "CLASS").help("The zone's class, IN where left out"))
+fn origin_option<'a>(alloc: Global) -> Arg<'a> {
+    option(alloc, "origin", "NAME").help("The origin of relative names")
+}
+
+fn class_option<'a>(alloc: Global) -> Arg<'a> {
+    option(alloc, "class", "CLASS").help("The zone's class, IN where left out")
+}
+
+fn file_argument<'a>(alloc: Global) -> Arg<'a> {
+    argument(alloc, "file", "FILE").help("The zone, - or left out for standard input")
 }
 
 fn present_flag<'a>(alloc: Global) -> Arg<'a> {
@@ -405,12 +410,20 @@ fn color_option<'a>(alloc: Global) -> Arg<'a> {
     )
 }
 
+fn layout_option<'a>(alloc: Global) -> Arg<'a> {
+    option(alloc, "layout", "LAYOUT").value_parser(LAYOUTS)
+}
+
 fn option<'a>(alloc: Global, name: &'a str, shown: &'a str) -> Arg<'a> {
     Arg::new(alloc, name).long(name).value_name(shown)
 }
 
 fn flag<'a>(alloc: Global, name: &'a str) -> Arg<'a> {
     Arg::new(alloc, name).long(name).action(ArgAction::SetTrue)
+}
+
+fn required<'a>(alloc: Global, name: &'a str, shown: &'a str) -> Arg<'a> {
+    argument(alloc, name, shown).required(true)
 }
 
 fn argument<'a>(alloc: Global, name: &'a str, shown: &'a str) -> Arg<'a> {

@@ -1,4 +1,5 @@
 //! How the text of a zone is read.
+ghost use Rattle.std.specs.Prelude.{◌≡◌};
 
 use dns_name::{Class, Name};
 
@@ -12,4 +13,16 @@ pub struct Reading {
     pub origin: Option<Name<Vec<u8>>>,
     /// The zone's class.
     pub class: Class,
+}
+
+impl Reading {
+    /// Returns the origin with borrowed octets.
+    pub fn origin_ref(&self) -> Option<Name<&[u8]>>
+        ensures { result ≡ self.now.origin }
+    {
+        match &self.origin {
+            Some(name) => Some(name.for_ref()),
+            None => None,
+        }
+    }
 }

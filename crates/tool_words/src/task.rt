@@ -2,9 +2,8 @@
 
 use crate::color_choice::ColorChoice;
 use crate::reading::Reading;
-use dns_name::{Class, Name};
+use dns_name::{Class, Name, Rtype};
 use dns_text::DisplayKind;
-use zone_tool::Selection;
 
 /// One run of the program.
 #[derive(Debug, Drop)]
@@ -28,8 +27,12 @@ pub enum Task<'a> {
         new: &'a str,
         /// How the zones are read.
         reading: Reading,
-        /// Which records are compared.
-        selection: Selection,
+        /// The types of records that are left out.
+        without: Vec<Rtype>,
+        /// Whether TTLs are ignored.
+        ignore_ttl: bool,
+        /// Whether the SOA's serial is ignored.
+        ignore_serial: bool,
         /// Whether data of further types is in presentation form.
         present: bool,
         /// Whether the lines have colours.

@@ -260,18 +260,14 @@ fn number_or(options: &ArgMatches<'_>, name: &str, default: u16) -> u16
 fn command<'a>(alloc: Global) -> Result<Command<'a>, AllocError>
     ensures { IfOk result (λ c. IsZonewire (app_of c)) }
 {
-    let send = send_command(alloc)?;
-    let receive = receive_command(alloc)?;
-    let check = text_command(alloc, "check", "Counts the records of zone text")?;
-    let canon = text_command(alloc, "canon", "Turns zone text into canonical octets")?;
     Command::new(alloc, "zonewire")
         .about("Sends, receives and checks DNS zones")
         .subcommand_required(true)
         .disable_help_subcommand(true)
-        .subcommand(send)?
-        .subcommand(receive)?
-        .subcommand(check)?
-        .subcommand(canon)
+        .subcommand(send_command(alloc)?)?
+        .subcommand(receive_command(alloc)?)?
+        .subcommand(text_command(alloc, "check", "Counts the records of zone text")?)?
+        .subcommand(text_command(alloc, "canon", "Turns zone text into canonical octets")?)
 }
 
 fn send_command<'a>(alloc: Global) -> Result<Command<'a>, AllocError>
