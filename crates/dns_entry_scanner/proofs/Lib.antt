@@ -1,4 +1,5 @@
 pub mod RoomBehind
+pub mod WrittenEnds
 pub mod DottedNames
 pub mod PlainOctets
 pub mod Lines
@@ -12,6 +13,7 @@ pub mod OneNameInText
 pub mod ChainedNames
 pub mod SpelledUnder
 pub mod PlainTexts
+pub mod SpelledRuns
 pub mod Words
 pub mod Gaps
 pub mod Refused
@@ -21,3 +23,4 @@ pub mod TakenTokens
 pub mod OneHead
 pub mod Heads
 mod FrequentWords
+mod NumberedTypes

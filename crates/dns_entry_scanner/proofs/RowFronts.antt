@@ -11,8 +11,8 @@ use Rattle.std.proofs.lemmas.List.Sums.{prefix_len_is, prefix_len_passes}
 use Rattle.std.proofs.lemmas.Simd.{chunk-drop, length-chunk, mask_l-lt, trailing_mask_l}
 use Rattle.dns_label.proofs.OctetRuns.{last_mask}
 use Rattle.dns_text.specs.Rows.{is_led}
-use Rattle.dns_text.specs.Tokens.{Next, head_of}
-use Rattle.dns_text.specs.Tokens.Head.{Feed, Go, Word}
+use Rattle.dns_text.specs.Tokens.{Next, from_feed, head_of}
+use Rattle.dns_text.specs.Tokens.Head.{Comment, Feed, Go, Word}
 use Rattle.dns_entry_scanner.specs.BegunRow.{BegunRow}
 use Rattle.dns_entry_scanner.specs.Gap.{end_in}
 use Rattle.dns_entry_scanner.specs.Octets.{ends_word, is_in_word, is_plain_in, may_end_word}
@@ -22,7 +22,7 @@ use Rattle.dns_entry_scanner.specs.TokenSpan.{has_backslash, token_in}
 use Rattle.dns_entry_scanner.specs.declared.token_end.TokenEnd.{TokenEnd}
 use Rattle.dns_entry_scanner.specs.declared.token_span.TokenSpan.{TokenSpan}
 use Rattle.dns_entry_scanner.proofs.Rows.{held_last, held_more, held_over}
-use Rattle.dns_entry_scanner.proofs.Steps.{SameNext, next_feed, next_word, same_go}
+use Rattle.dns_entry_scanner.proofs.Steps.{SameNext, next_feed, next_word, same_comment, same_go}
 use Rattle.dns_entry_scanner.proofs.TokenRuns.{over_to, runs_to, taken_to}
 
 -- the mask of the octets that may end a word
@@ -205,6 +205,17 @@ pub front_feed : {text : List ℕ} {start : ℕ} {spans : List TokenSpan} {insid
     → head_of inside (get_or text at 0) ≡ Feed → BegunRow text start spans inside at → IsRowAt text start spans (at + 1) (is_led (drop start text))
 front_feed {text} {inside = inside} at within head held =
     held_last held (next_feed text at within (refl_same inside (drop at text)) head) (omega (arith, within)) refl
+
+pub feed_head : (inside : Bool) (octet : ℕ) → octet ≡ 10 → inside ≡ false → head_of inside octet ≡ Feed
+feed_head inside octet is out = ap (head_of inside) is ∙ ap (λ (b : Bool). head_of b 10) out
+
+pub front_comment : {text : List ℕ} {start : ℕ} {spans : List TokenSpan} {inside : Bool} (from at end : ℕ) → from + at < length text
+    → head_of inside (get_or text (from + at) 0) ≡ Comment → drop end text ≡ from_feed (drop (from + at + 1) text) → from + at + 1 ≤ end
+    → BegunRow text start spans inside (from + at) → BegunRow text start spans inside (from + (end - from))
+front_comment {text} {start} {spans} {inside} from at end within head feed behind held =
+    let place_is : end ≡ from + (end - from) = omega (arith, behind) in
+    subst (λ n. BegunRow text start spans inside n) place_is
+    (held_over held (same_comment text (from + at) within (refl_same inside (drop (from + at) text)) end head feed))
 
 pub front_word : {text : List ℕ} {start : ℕ} {spans all : List TokenSpan} {inside : Bool} (from at len : ℕ) → from + 64 ≤ length text
     → WordAt (chunk from 64 text) at len → 0 < len → ends_word (get_or text (from + at + len) 0) ≡ true

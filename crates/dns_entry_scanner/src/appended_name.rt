@@ -10,10 +10,11 @@ ghost use Rattle.dns_entry_scanner.specs.EntryError.{is_memory};
 ghost use Rattle.dns_entry_scanner.specs.NameInText.{SpellsUnder};
 
 use crate::EntryError;
-use crate::dotted_name::{LANES, OtherThanDot, append_dotted_name, append_longer};
+use crate::dotted_name::{LANES, OtherThanDot, append_dotted_name};
 use crate::row_token::RowToken;
+use crate::short_copy::{append_longer, write_over};
 use crate::text_name::{end_labels, finished_octets, is_at_sign, known_origin};
-use dns_name::{Composer, Name, run_end};
+use dns_name::{Name, run_end};
 use dns_wire::text::NameDraft;
 use std::alloc::AllocError;
 
@@ -126,7 +127,8 @@ fn append_parts(
     ensures more { take (length octets.old.items) octets.new.items ≡ octets.old.items }
 {
     append_longer(front, front, behind.len() + room, octets)?;
-    octets.patch(octets.len() - room - behind.len(), behind);
+    let place = octets.len() - room - behind.len();
+    write_over(octets, place, behind);
     Ok(())
 }
 
@@ -235,6 +237,7 @@ fn append_before(
     let origin = origin.as_slice();
     octets.push(token.text.len() as u8)?;
     append_longer(token.text, token.from, origin.len() + room, octets)?;
-    octets.patch(octets.len() - room - origin.len(), origin);
+    let place = octets.len() - room - origin.len();
+    write_over(octets, place, origin);
     Ok(())
 }

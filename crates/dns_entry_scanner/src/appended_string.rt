@@ -6,6 +6,7 @@ ghost use Rattle.dns_scan.specs.StringText.{IsStringText, Spells};
 
 use crate::EntryError;
 use crate::row_token::RowToken;
+use crate::short_copy::append_longer;
 use crate::spelled_octets::append_symbols;
 use std::alloc::AllocError;
 
@@ -34,7 +35,8 @@ pub(crate) fn append_text(token: RowToken<'_>, octets: &mut Vec<u8>) -> Result<(
 
 /// Appends the character string that a token's text spells, its length first.
 ///
-/// Fails as `string_of` does, and then appends nothing.
+/// Fails as `string_of` does, and then appends nothing. It is called once for each string, so it is inlined.
+#[inline(always)]
 pub(crate) fn append_string(token: RowToken<'_>, octets: &mut Vec<u8>) -> Result<(), EntryError>
     ensures ok { OnOk result ((string : List ℕ) × IsStringText token.entry.text.now string × (octets.new.items ≡ octets.old.items ++ string_wire string)) }
     ensures err { IfErr result (λ error. is_memory error ≡ false → (string : List ℕ) → IsStringText token.entry.text.now string → ⊥) }
@@ -42,10 +44,21 @@ pub(crate) fn append_string(token: RowToken<'_>, octets: &mut Vec<u8>) -> Result
     ensures same { OnErr result (octets.new.items ≡ octets.old.items) }
 {
     if token.text.len() <= STRING_MOST && token.is_plain() {
-        return append_counted(token.text, octets);
+        return append_counted(token, octets);
     }
+    append_escaped(token.text, octets)
+}
+
+/// The same for any text. It is not inlined, so the case above stays short.
+#[inline(never)]
+fn append_escaped(text: &[u8], octets: &mut Vec<u8>) -> Result<(), EntryError>
+    ensures ok { OnOk result ((string : List ℕ) × IsStringText text.now string × (octets.new.items ≡ octets.old.items ++ string_wire string)) }
+    ensures err { IfErr result (λ error. is_memory error ≡ false → (string : List ℕ) → IsStringText text.now string → ⊥) }
+    ensures end { IfErr result (λ error. is_end error ≡ false) }
+    ensures same { OnErr result (octets.new.items ≡ octets.old.items) }
+{
     let len = octets.len();
-    let appended = append_spelled(token.text, octets);
+    let appended = append_spelled(text, octets);
     if appended.is_err() {
         octets.truncate(len);
     }
@@ -73,16 +86,16 @@ fn append_spelled(text: &[u8], octets: &mut Vec<u8>) -> Result<(), EntryError>
     Ok(())
 }
 
-/// Appends the octets of a string after their number. Fails with `OutOfMemory` if out of memory, and then appends
+/// Appends the octets of the token's text after their number. Fails with `OutOfMemory` if out of memory, and then appends
 /// nothing.
-fn append_counted(string: &[u8], octets: &mut Vec<u8>) -> Result<(), EntryError>
-    requires { length string.now ≤ 255 }
-    ensures ok { OnOk result (octets.new.items ≡ octets.old.items ++ string_wire string.now) }
+fn append_counted(token: RowToken<'_>, octets: &mut Vec<u8>) -> Result<(), EntryError>
+    requires { length token.text.now ≤ 255 }
+    ensures ok { OnOk result (octets.new.items ≡ octets.old.items ++ string_wire token.entry.text.now) }
     ensures err { IfErr result (λ error. (is_memory error ≡ true) × (is_end error ≡ false)) }
     ensures same { OnErr result (octets.new.items ≡ octets.old.items) }
 {
     let len = octets.len();
-    if append_parts(string, octets).is_err() {
+    if append_parts(token, octets).is_err() {
         octets.truncate(len);
         return Err(EntryError::OutOfMemory);
     }
@@ -90,12 +103,11 @@ fn append_counted(string: &[u8], octets: &mut Vec<u8>) -> Result<(), EntryError>
 }
 
 /// The same, but if out of memory it may have appended a part.
-fn append_parts(string: &[u8], octets: &mut Vec<u8>) -> Result<(), AllocError>
-    requires { length string.now ≤ 255 }
-    ensures ok { OnOk result (octets.new.items ≡ octets.old.items ++ string_wire string.now) }
+fn append_parts(token: RowToken<'_>, octets: &mut Vec<u8>) -> Result<(), AllocError>
+    requires { length token.text.now ≤ 255 }
+    ensures ok { OnOk result (octets.new.items ≡ octets.old.items ++ string_wire token.entry.text.now) }
     ensures front { take (length octets.old.items) octets.new.items ≡ octets.old.items }
 {
-    octets.push(string.len() as u8)?;
-    octets.extend_from_slice(string)?;
-    Ok(())
+    octets.push(token.text.len() as u8)?;
+    append_longer(token.text, token.from, 0, octets)
 }

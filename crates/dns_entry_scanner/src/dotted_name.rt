@@ -1,5 +1,5 @@
 //! Names in text with their last dot and without escapes, appended as octets (RFC 1035 5.1).
-ghost use Rattle.std.specs.Prelude.{◌≡◌, ◌≤◌, ◌+◌, ◌++◌, List, ℕ, true, false, length, drop, take, IsTrue, IfOk, IfSome, OnOk};
+ghost use Rattle.std.specs.Prelude.{◌≡◌, ◌≤◌, ◌+◌, ◌++◌, List, ℕ, true, false, length, drop, take, IsTrue, IfOk, IfSome};
 ghost use Rattle.std.specs.List.{list_all};
 ghost use Rattle.dns_label.specs.Name.{wire};
 ghost use Rattle.dns_label.specs.NameText.{IsAbsoluteText};
@@ -8,6 +8,7 @@ ghost use Rattle.dns_wire.specs.Unescaped.{StartsWithUnescapedLabel};
 ghost use Rattle.dns_entry_scanner.specs.AppendedName.{HasBehind, is_no_dot};
 
 use crate::row_token::RowToken;
+use crate::short_copy::append_longer;
 use dns_name::{OctetKind, run_end};
 use std::alloc::AllocError;
 use std::simd::prelude::*;
@@ -63,32 +64,6 @@ fn append_labels(token: RowToken<'_>, room: usize, octets: &mut Vec<u8>) -> Resu
     }
     octets[front + start] = 0;
     Ok(true)
-}
-
-/// Appends the text that a longer one begins with, and `room` octets of any value behind it. One copy from the longer text is both,
-/// if that has as many octets.
-///
-/// If out of memory, fails and may have appended the text. It is called for almost each name, so it is inlined.
-#[inline(always)]
-pub(crate) fn append_longer(
-    text: &[u8],
-    from: &[u8],
-    room: usize,
-    octets: &mut Vec<u8>,
-) -> Result<(), AllocError>
-    requires begins { text.now ≡ take (length text.now) from.now }
-    requires room { room ≤ 510 }
-    ensures ok { OnOk result (HasBehind room (octets.old.items ++ text.now) octets.new.items) }
-    ensures front { take (length octets.old.items) octets.new.items ≡ octets.old.items }
-{
-    let whole = text.len() + room;
-    if whole <= from.len() {
-        octets.extend_from_slice(&from[..whole])?;
-        return Ok(());
-    }
-    octets.extend_from_slice(text)?;
-    octets.resize(octets.len() + room, 0)?;
-    Ok(())
 }
 
 /// Returns the label at a place of a text of octets that stand for themselves, if a dot follows it. The longer text is that from the

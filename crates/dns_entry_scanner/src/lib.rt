@@ -28,6 +28,7 @@ mod row_reader;
 mod row_scanner;
 mod row_token;
 mod scanned_name;
+mod short_copy;
 mod spelled_octets;
 mod step;
 mod text_name;

@@ -8,11 +8,13 @@ ghost use Rattle.dns_entry_scanner.specs.RecordHead.{HasHead, IsClass, IsTtl, St
 ghost use Rattle.dns_entry_scanner.specs.HeadWord.{Heads, IsHeadWord};
 
 mod frequent_word;
+mod numbered_type;
 
 use crate::EntryScanner;
 use dns_name::{Class, Rtype, Ttl};
 use dns_text::{Scanner, ScannerError, number_of};
 use frequent_word::frequent_word;
+use numbered_type::numbered_type;
 
 /// TTL, class and type of a record, as far as its row states them.
 #[derive(Clone, Copy)]
@@ -190,7 +192,7 @@ fn next_word<S: EntryScanner>(scanner: &mut S) -> Result<HeadWord, S::Error>
 }
 
 /// Returns what a word says: digits are a TTL; any other word is a type, and only if it is none, a class. Most words
-/// are digits, the class IN or one of a few types, so these come before the search in the mnemonics of all types.
+/// are digits, the class IN, one of a few types or a type's number, so these come before the search in the mnemonics of all types.
 #[inline(always)]
 #[tactic(auto, using(crate::proofs::Heads::number_alone, crate::proofs::Heads::number_heads))]
 fn word_of(text: &str) -> Option<HeadWord>
@@ -203,6 +205,9 @@ fn word_of(text: &str) -> Option<HeadWord>
     }
     if let Some(word) = frequent_word(octets) {
         return Some(word);
+    }
+    if let Some(rtype) = numbered_type(octets) {
+        return Some(HeadWord::Rtype(rtype));
     }
     if are_digits(octets) {
         return None;

@@ -1,4 +1,4 @@
-//! The fronts of rows: words, white space and parentheses alone, found by one mask of 64 octets.
+//! The fronts of rows: words, white space, parentheses and comments alone, found by one mask of 64 octets.
 ghost use Rattle.std.specs.Prelude.{◌≡◌, ◌≤◌, ◌<◌, ◌+◌, [], false, true, List, ℕ, length, map, not, drop, IfOk, IsTrue};
 ghost use Rattle.std.specs.List.{prefix_len};
 ghost use Rattle.std.specs.Simd.Lanes.{chunk, mask_l};
@@ -9,6 +9,7 @@ ghost use Rattle.dns_entry_scanner.specs.RowFound.{IsRowAt};
 
 use crate::TokenSpan;
 use crate::head::{Head, head_of, is_space};
+use crate::plain_octets::line_end;
 use std::alloc::AllocError;
 use std::simd::prelude::*;
 
@@ -50,8 +51,8 @@ impl RowFront {
     }
 }
 
-/// Reads a row from the place on, as far as it is words, white space and parentheses, within 64 octets. Pushes its tokens. Most
-/// rows are whole then. It ends before a word with a backslash or one of `!` to `'`.
+/// Reads a row from the place on, as far as it is words, white space, parentheses and comments, within 64 octets; a comment may end
+/// behind them. Pushes its tokens. Most rows are whole then. It ends before a word with a backslash or one of `!` to `'`.
 ///
 /// Fails if out of memory.
 pub(crate) fn read_front(
@@ -87,13 +88,18 @@ pub(crate) fn read_front(
                 break;
             }
         } else {
-            match head_of(inside, text[place + at]) {
+            let octet = text[place + at];
+            // Most rows end so.
+            if octet == b'\n' && !inside {
+                return Ok(RowFront::whole(place + at + 1));
+            }
+            match head_of(inside, octet) {
                 Head::Go(behind) => {
                     inside = behind;
                     at += 1;
                 }
-                Head::Feed => return Ok(RowFront::whole(place + at + 1)),
-                Head::Comment | Head::Quote | Head::Word | Head::Refused => break,
+                Head::Comment => at = line_end(text, place + at + 1) - place,
+                Head::Feed | Head::Quote | Head::Word | Head::Refused => break,
             }
         }
     }

@@ -6,6 +6,7 @@ ghost use Rattle.dns_entry_scanner.specs.EntryError.{is_memory, is_end};
 ghost use Rattle.dns_scan.specs.StringText.{Spells, IsStringText};
 
 use crate::EntryError;
+use crate::plain_octets::plain_end;
 use crate::row_token::RowToken;
 use dns_name::Symbol;
 use dns_scan::CharStr;
@@ -51,7 +52,7 @@ pub(crate) fn octets_of(alloc: Global, token: RowToken<'_>) -> Result<Vec<u8>, E
     Ok(octets)
 }
 
-/// Appends the octets that a text spells, read symbol by symbol.
+/// Appends the octets that a text spells. Octets that stand for themselves are appended run by run.
 ///
 /// Fails with `Custom` if a part of the text is no symbol, and with `OutOfMemory` if out of memory. It may then have
 /// appended the octets of the symbols before.
@@ -63,12 +64,18 @@ pub(crate) fn append_symbols(text: &[u8], octets: &mut Vec<u8>) -> Result<(), En
 {
     let mut rest = text;
     while !rest.is_empty() {
-        let Some((symbol, behind)) = Symbol::split_from(rest) else {
-            return Err(EntryError::Custom("bad symbol"));
-        };
-        match octets.push(octet_of(symbol)) {
-            Ok(()) => rest = behind,
-            Err(_) => return Err(EntryError::OutOfMemory),
+        let len = plain_end(rest, 0, true);
+        if len > 0 {
+            octets.extend_from_slice(&rest[..len])?;
+            rest = &rest[len..];
+        } else {
+            let Some((symbol, behind)) = Symbol::split_from(rest) else {
+                return Err(EntryError::Custom("bad symbol"));
+            };
+            match octets.push(octet_of(symbol)) {
+                Ok(()) => rest = behind,
+                Err(_) => return Err(EntryError::OutOfMemory),
+            }
         }
     }
     Ok(())

@@ -15,7 +15,7 @@ returns-clause-ok c =
       front ++ wire c.args.origin.now,
       label_under label c.args.origin.now c.args.octets.now.items _ front _ c.requires.all c.requires.some c.requires.short c.requires.other
           c.as_slice-origin.ensures.name c.requires.fits c.in_ok-push.ensures.items refl refl,
-      subst (λ (l : List ℕ). HasBehind c.args.room (front ++ l) c.patch.new.self.items) c.as_slice-origin.ensures.octets
+      subst (λ (l : List ℕ). HasBehind c.args.room (front ++ l) c.write_over.new.octets.items) c.as_slice-origin.ensures.octets
           (has_over front c.as_slice-origin.result.now _ _ _ c.args.room _ has (omega arith)
-          (omega (arith, size, long, length-append front has.others)) c.patch.ensures.octets),
+          (omega (arith, size, long, length-append front has.others)) c.write_over.ensures),
     )

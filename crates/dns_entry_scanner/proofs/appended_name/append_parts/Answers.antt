@@ -10,6 +10,6 @@ returns-clause-ok c =
     let has = c.in_ok-append_longer.ensures.ok in
     let long = has.long in
     let size = ap (length {A = ℕ}) has.is in
-    subst (λ (l : List ℕ). HasBehind c.args.room l c.patch.new.self.items) (append_assoc old c.args.front.now c.args.behind.now)
+    subst (λ (l : List ℕ). HasBehind c.args.room l c.write_over.new.octets.items) (append_assoc old c.args.front.now c.args.behind.now)
     (has_over front c.args.behind.now _ _ _ c.args.room _ has (omega arith)
-    (omega (arith, size, long, length-append front has.others)) c.patch.ensures.octets)
+    (omega (arith, size, long, length-append front has.others)) c.write_over.ensures)

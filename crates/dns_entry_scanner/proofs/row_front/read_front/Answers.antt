@@ -1,4 +1,4 @@
-use Rattle.std.proofs.Common.{◌+◌, ◌<◌, ◌++◌, ◌∷◌, ◌∙◌, [], ap, arith, drop, rules, subst, sym, length}
+use Rattle.std.proofs.Common.{◌+◌, ◌<◌, ◌++◌, ◌∷◌, ◌∙◌, [], ap, arith, drop, get_or, rules, subst, sym, length}
 use Rattle.dns_text.specs.Rows.{is_led}
 use lib.Lanes.{chunk}
 use Rattle.std.proofs.lemmas.Simd.{length-chunk}
@@ -6,23 +6,32 @@ use Rattle.dns_entry_scanner.specs.BegunRow.{BegunRow}
 use Rattle.dns_entry_scanner.specs.RowFound.{IsRowAt}
 use Rattle.dns_entry_scanner.specs.declared.row_front.RowFront.{RowFront}
 use Rattle.dns_entry_scanner.specs.declared.token_span.TokenSpan.{TokenSpan}
-use Rattle.dns_entry_scanner.proofs.RowFronts.{front_feed, front_gap, front_none, front_spaced, front_word, window}
+use Rattle.dns_entry_scanner.proofs.RowFronts.{feed_head, front_comment, front_feed, front_gap, front_none, front_spaced, front_word, window}
 use Rattle.dns_entry_scanner.proofs.row_front.read_front.Goals as goal
 
 pub loop-at-init : goal.loop-at-init
 loop-at-init c = record { within = omega arith; held = λ start held. front_none c.args.place held }
 
-pub loop-at-preserved : goal.loop-at-preserved
-loop-at-preserved c = record {
+pub loop-at-preserved-in-Go : goal.loop-at-preserved-in-Go
+loop-at-preserved-in-Go c = record {
   within = omega arith;
   held = λ start held. front_gap c.in-Go.behind c.args.place c.loop-at.at (omega arith) c.in-Go.ensures (c.loop-at.invariant.held start held);
 }
 
-pub returns-in-Feed-clause-whole : goal.returns-in-Feed-clause-whole
-returns-in-Feed-clause-whole c =
+pub loop-at-preserved : goal.loop-at-preserved
+loop-at-preserved c =
+    let text = c.args.text.now in
+    let end = c.line_end.result in record {
+      within = omega (arith, c.line_end.ensures.within, c.line_end.ensures.behind);
+      held = λ start held. front_comment c.args.place c.loop-at.at end (omega arith) c.in-Comment.ensures c.line_end.ensures.feed
+          (omega (arith, c.line_end.ensures.behind)) (c.loop-at.invariant.held start held);
+    }
+
+pub returns-then-not-inside-clause-whole : goal.returns-then-not-inside-clause-whole
+returns-then-not-inside-clause-whole c =
     λ whole start held. subst (λ (front : RowFront). IsRowAt c.args.text.now start c.loop-at.tokens.items front.place (is_led (drop start c.args.text.now)))
     (sym c.whole.ensures)
-    (front_feed (c.args.place + c.loop-at.at) (omega arith) c.in-Feed.ensures (c.loop-at.invariant.held start held))
+    (front_feed (c.args.place + c.loop-at.at) (omega arith) (feed_head c.loop-at.inside (get_or c.args.text.now (c.args.place + c.loop-at.at) 0) (search rules) (search rules)) (c.loop-at.invariant.held start held))
 
 pub bounds-text-place : goal.bounds-text-place
 bounds-text-place c =
