@@ -2,8 +2,7 @@
 use Rattle.std.proofs.Common.{◌≡◌, ℕ, Bool, true, false, List, [], ◌∷◌, length, map, refl, sym, ◌∙◌, ap}
 use Rattle.std.specs.Char.{to_ascii_lowercase}
 use Rattle.std.proofs.lemmas.List.{length-map}
-use Rattle.dns_label.specs.Name.{IsName, wire, low}
-use Rattle.dns_wire.proofs.LowNames.{length-wire-low}
+use Rattle.dns_label.specs.Name.{low}
 use Rattle.dns_compress.specs.Tables.{looked_up}
 
 pub key_lowered : (lowers test : Bool) (key name : List (List ℕ)) → test ≡ lowers → test ≡ true → key ≡ low name → key ≡ looked_up lowers name
@@ -13,10 +12,6 @@ key_lowered false test key name same is low = absurd (cc)
 pub key_same : (lowers test : Bool) (name : List (List ℕ)) → test ≡ lowers → test ≡ false → name ≡ looked_up lowers name
 key_same true test name same is = absurd (cc)
 key_same false test name same is = refl
-
-pub key_long : (lowers : Bool) (key name : List (List ℕ)) → IsName name → key ≡ looked_up lowers name → length (wire key) ≡ length (wire name)
-key_long true key name is_name is = ap (λ (n : List (List ℕ)). length (wire n)) is ∙ length-wire-low name is_name
-key_long false key name is_name is = ap (λ (n : List (List ℕ)). length (wire n)) is
 
 pub key_root : (lowers : Bool) (key name : List (List ℕ)) → key ≡ looked_up lowers name → key ≡ [] → name ≡ []
 key_root false key name is none = sym is ∙ none

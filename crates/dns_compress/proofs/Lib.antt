@@ -9,6 +9,7 @@ pub mod LookUp
 pub mod Lowered
 pub mod Naming
 pub mod Orders
+pub mod Pointed
 pub mod Sound
 pub mod Spots
 pub mod SpotsFound

@@ -1,9 +1,9 @@
 -- A walked name is appended: the octets and what is remembered are those of the definitions.
-use Rattle.std.proofs.Common.{◌≡◌, ◌≤◌, ◌<◌, ◌+◌, ℕ, Bool, true, false, Option, Some, None, List, [], ◌∷◌, ◌++◌, length, drop, sym, ◌∙◌, ap, arith, length-append, subst}
+use Rattle.std.proofs.Common.{◌≡◌, ◌≤◌, ◌<◌, ◌+◌, ℕ, Bool, true, false, Option, Some, None, List, [], ◌∷◌, ◌++◌, length, take, drop, sym, ◌∙◌, ap, arith, length-append, subst}
 use Rattle.std.specs.Prelude.{Result, OnOk}
 use Rattle.std.specs.Option.{ForSome}
 use Rattle.dns_octets.specs.Builder.{Standing, Known, IsPast}
-use Rattle.dns_label.specs.Name.{IsName, wire}
+use Rattle.dns_label.specs.Name.{IsName, wire, labels_wire}
 use Rattle.dns_name.specs.Spelling.{Spelling, split_from, name_text, known_after}
 use Rattle.dns_name.specs.Remembered.{IsKnown, IsSound}
 use Rattle.dns_name.proofs.Soundness.{merely-within}
@@ -11,13 +11,22 @@ use Rattle.dns_name.proofs.Spelled.{split_some}
 use Rattle.dns_compress.specs.Tables.{added}
 use Rattle.dns_compress.specs.Walk.{pointed_to, walked_text, IsWalked}
 use Rattle.dns_compress.proofs.Sound.{sound_name, sound_of, found_near}
-use Rattle.dns_compress.proofs.Texts.{text_walked, near_walked, far_walked}
+use Rattle.dns_compress.proofs.Texts.{wire_cut, text_walked, near_walked, far_walked}
 
 -- the target of a pointer is near enough
 target_near : {octets : List ℕ} (s : Spelling) (known : Known) (suffix : List (List ℕ)) (target : ℕ) → ∥ IsSound s known octets ∥₁
     → Some target ≡ pointed_to s known suffix → target < 16384
 target_near s known [] target sound is = absurd (let e : Some target ≡ None = is in cc)
 target_near s known (label ∷ parent) target sound is = found_near (wire (label ∷ parent)) target sound (sym is)
+
+-- a pointer has room in the suffix that it stands for
+target_long : (s : Spelling) (known : Known) (suffix : List (List ℕ)) (target : ℕ) → Some target ≡ pointed_to s known suffix → 2 ≤ length (wire suffix)
+target_long s known [] target is = absurd (let e : Some target ≡ None = is in cc)
+target_long s known (label ∷ parent) target is = omega (arith, length-append label (wire parent), wire_some parent)
+  where
+    wire_some : (name : List (List ℕ)) → 1 ≤ length (wire name)
+    wire_some [] = omega arith
+    wire_some (label ∷ parent) = omega arith
 
 module _ (s : Spelling) (known : Known) (octets : List ℕ) (name : List (List ℕ)) (labels front : ℕ) (near : Bool) (target : Option ℕ)
     (walked : IsWalked s known (length known + 0) (length octets) name labels front near target) where
@@ -26,6 +35,11 @@ module _ (s : Spelling) (known : Known) (octets : List ℕ) (name : List (List �
 
   pub leads_near : ∥ IsSound s known octets ∥₁ → ForSome target (λ place. place < 16384)
   leads_near sound place is = target_near s known (drop labels name) place sound (sym is ∙ walked.leads)
+
+  pub leads_long : ForSome target (λ place. front + 2 ≤ length (wire name))
+  leads_long = λ place is.
+      let cut = ap (length {A = ℕ}) (wire_cut labels name) in
+      omega (arith, target_long s known (drop labels name) place (sym is ∙ walked.leads), walked.long, cut, length-append (labels_wire (take labels name)) (wire (drop labels name)))
 
   pub text_is : (wires : List ℕ) → wires ≡ wire name → walked_text wires front target ≡ name_text s known (length octets) name
   text_is wires is =

@@ -151,7 +151,7 @@ impl<Target: Truncate, T: Table> Compressor<Target, T> {
         ensures walked { IsWalked T.spelling (T.known self.now.table (Target.list self.now.target))
             (length (T.known self.now.table (Target.list self.now.target)) + 0) (length (Target.list self.now.target)) name.now
             result.labels result.front result.near result.target }
-        ensures front { result.front ≤ length (wire name.now) }
+        ensures room { ForSome result.target (λ place. result.front + 2 ≤ length (wire name.now)) }
         ensures labels { result.labels ≤ 255 }
         ensures near { ForSome result.target (λ place. place < 16384) }
         ensures name { IsName name.now }
@@ -162,7 +162,9 @@ impl<Target: Truncate, T: Table> Compressor<Target, T> {
         let octets = self.target.octets();
         walk_labels(&self.table, octets, key, 0, octets.len())
     }
+}
 
+impl<Target: Composer, T: Table> Compressor<Target, T> {
     /// Appends the name, all or nothing.
     fn append_name(&mut self, name: &Name<&[u8]>) -> Result<(), AppendError>
         ensures ok { OnOk result (Target.list self.new.target ≡ Target.list self.old.target
