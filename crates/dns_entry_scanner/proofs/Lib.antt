@@ -18,6 +18,7 @@ pub mod Words
 pub mod Gaps
 pub mod Refused
 pub mod OneLabel
+pub mod RelativeNames
 pub mod HandedOn
 pub mod TakenTokens
 pub mod OneHead

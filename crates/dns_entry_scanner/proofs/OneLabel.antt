@@ -16,7 +16,7 @@ use Rattle.dns_wire.proofs.UnescapedTexts.{unescaped_sound}
 use Rattle.dns_entry_scanner.specs.AppendedName.{OneLabelUnder, is_no_dot}
 use Rattle.dns_entry_scanner.specs.NameInText.{SpellsUnder}
 
-each_unescaped : (text : List ℕ) → list_all is_unescaped text ≡ true → AllByRecursion IsUnescaped text
+pub each_unescaped : (text : List ℕ) → list_all is_unescaped text ≡ true → AllByRecursion IsUnescaped text
 each_unescaped [] all = tt
 each_unescaped (octet ∷ text) all =
     let both = and_parts (is_unescaped octet) (list_all is_unescaped text) all in
@@ -51,31 +51,31 @@ unescaped_all (octet ∷ text) plain undotted =
     and_from _ _ (and_from _ _ here.0 other.0) (unescaped_all text here.1 other.1)
 
 -- each octet is a symbol that stands for itself
-spelled_chars : (text : List ℕ) → flat_map spelled (map Char text) ≡ text
+pub spelled_chars : (text : List ℕ) → flat_map spelled (map Char text) ≡ text
 spelled_chars [] = refl
 spelled_chars (octet ∷ text) = ap (λ l. octet ∷ l) (spelled_chars text)
 
 not_dot : (octet : ℕ) → octet ≢ 46 → is_dot (Char octet) ≡ false
 not_dot octet none = search (rules, tests)
 
-read_on : (symbols : List Symbol) (begun text : List ℕ) → Reading symbols [] begun → AllByRecursion IsUnescaped text
-    → Reading (symbols ++ map Char text) [] (begun ++ text)
-read_on symbols begun [] reading each =
-    let P : List Symbol → Type 0 = λ s. Reading s [] (begun ++ []) in
-    let Q : List ℕ → Type 0 = λ b. Reading symbols [] b in
+pub read_on : (symbols : List Symbol) (done : List (List ℕ)) (begun text : List ℕ) → Reading symbols done begun → AllByRecursion IsUnescaped text
+    → Reading (symbols ++ map Char text) done (begun ++ text)
+read_on symbols done begun [] reading each =
+    let P : List Symbol → Type 0 = λ s. Reading s done (begun ++ []) in
+    let Q : List ℕ → Type 0 = λ b. Reading symbols done b in
     subst P (sym (append-nil symbols)) (subst Q (sym (append-nil begun)) reading)
-read_on symbols begun (octet ∷ text) reading each =
-    let P : List Symbol → Type 0 = λ s. Reading s [] (begun ++ octet ∷ text) in
-    let Q : List ℕ → Type 0 = λ b. Reading ((symbols ++ Char octet ∷ []) ++ map Char text) [] b in
+read_on symbols done begun (octet ∷ text) reading each =
+    let P : List Symbol → Type 0 = λ s. Reading s done (begun ++ octet ∷ text) in
+    let Q : List ℕ → Type 0 = λ b. Reading ((symbols ++ Char octet ∷ []) ++ map Char text) done b in
     subst P (append_assoc symbols (Char octet ∷ []) (map Char text)) (
     subst Q (append_assoc begun (octet ∷ []) text)
-    (read_on (symbols ++ Char octet ∷ []) (begun ++ octet ∷ []) text
-    (reading-octet symbols [] begun (Char octet) reading each.0.0 (not_dot octet each.0.1)) each.1)
+    (read_on (symbols ++ Char octet ∷ []) done (begun ++ octet ∷ []) text
+    (reading-octet symbols done begun (Char octet) reading each.0.0 (not_dot octet each.0.1)) each.1)
     )
 
 label_text : (text : List ℕ) → list_all is_unescaped text ≡ true → 0 < length text → length text ≤ 63 → IsRelativeText text (text ∷ [])
 label_text text all some short =
-    let reading = read_on [] [] text reading_here (each_unescaped text all) in record {
+    let reading = read_on [] [] [] text reading_here (each_unescaped text all) in record {
       parts = record {
         symbols = map Char text;
         each = reading.each;

@@ -1,6 +1,9 @@
 -- A name that a token spells, appended to octets.
-use Rattle.std.specs.Prelude.{◌≡◌, ◌==◌, ℕ, Bool, List, Some, ◌∷◌, ◌++◌, length, not}
+use Rattle.std.specs.Prelude.{◌≡◌, ◌==◌, ◌<◌, ◌≤◌, ℕ, Bool, List, Some, false, ◌∷◌, ◌++◌, length, drop, not}
+use Rattle.dns_label.specs.declared.symbol.Symbol.{Symbol}
 use Rattle.dns_label.specs.Name.{IsName, wire}
+use Rattle.dns_label.specs.NameText.{is_dot}
+use Rattle.dns_label.specs.Symbol.{IsSymbol, octet, spelled}
 use Rattle.dns_scan.specs.Token.{Token, unquoted}
 use Rattle.dns_entry_scanner.specs.NameInText.{SpellsUnder}
 
@@ -32,3 +35,13 @@ pub record HasBehind (room : ℕ) (octets all : List ℕ) : Type 0 where
   pub others : List ℕ
   pub long : length others ≡ room
   pub is : all ≡ octets ++ others
+
+-- a symbol other than a dot is at the place of the text, up to the end
+pub record EscapeAt (text : List ℕ) (start value end : ℕ) : Type 0 where
+  pub symbol : Symbol
+  pub is_symbol : IsSymbol symbol
+  pub other : is_dot symbol ≡ false
+  pub stands : octet symbol ≡ value
+  pub written : drop start text ≡ spelled symbol ++ drop end text
+  pub behind : start < end
+  pub within : end ≤ length text

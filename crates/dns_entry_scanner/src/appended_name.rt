@@ -11,6 +11,7 @@ ghost use Rattle.dns_entry_scanner.specs.NameInText.{SpellsUnder};
 
 use crate::EntryError;
 use crate::dotted_name::{LANES, OtherThanDot, append_dotted_name};
+use crate::relative_name::append_relative;
 use crate::row_token::RowToken;
 use crate::short_copy::{append_longer, write_over};
 use crate::text_name::{end_labels, finished_octets, is_at_sign, known_origin};
@@ -38,6 +39,9 @@ pub(crate) fn append_name(
         return Ok(());
     }
     if append_label(token, origin, room, octets) {
+        return Ok(());
+    }
+    if append_relative(token.text, token.from, origin, room, octets) {
         return Ok(());
     }
     append_spelled(token.text, origin, room, octets)

@@ -22,6 +22,7 @@ mod inline_name;
 mod line_mark;
 mod plain_octets;
 mod record_head;
+mod relative_name;
 mod row;
 mod row_front;
 mod row_reader;

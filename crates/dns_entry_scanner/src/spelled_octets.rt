@@ -82,7 +82,7 @@ pub(crate) fn append_symbols(text: &[u8], octets: &mut Vec<u8>) -> Result<(), En
 }
 
 /// Returns the octet that a symbol stands for.
-fn octet_of(symbol: Symbol) -> u8
+pub(crate) fn octet_of(symbol: Symbol) -> u8
     requires { IsSymbol symbol }
     ensures { result ≡ octet symbol }
 {
