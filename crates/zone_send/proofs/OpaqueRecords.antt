@@ -1,23 +1,25 @@
 -- A record without a name in its data that may be compressed is written behind its owner as it is stored.
-use Rattle.std.proofs.Common.{◌≡◌, ◌==◌, ◌||◌, ◌-◌, ◌≤◌, ◌<◌, ◌^◌, ℕ, Bool, true, false, Some, List, [], ◌∷◌, ◌++◌, length, map, take, drop, refl, sym, subst, ap, ◌∙◌, arith, append_assoc, append-nil, length-append}
+use Rattle.std.proofs.Common.{◌≡◌, ◌==◌, ◌+◌, ◌-◌, ◌≤◌, ◌<◌, ◌^◌, ℕ, Bool, true, false, Option, Some, None, List, [], ◌∷◌, ◌++◌, length, map, take, drop, refl, sym, ap, ◌∙◌, arith, append_assoc, append-nil, length-append}
+use Rattle.std.specs.Prelude.{if◌then◌else◌}
 use Rattle.std.proofs.lemmas.Bool.Decides.{nat_tests}
 use Rattle.std.proofs.lemmas.List.{drop_at, length-drop, take_all}
 use Rattle.std.specs.Int.{to_be_bytes, w16}
 use Rattle.dns_octets.specs.Builder.{Known}
-use Rattle.dns_name.specs.Spelling.{Spelling}
+use Rattle.dns_name.specs.Spelling.{Spelling, name_text}
 use Rattle.dns_label.specs.Name.{wire}
 use Rattle.dns_name.specs.Page.{Page, Parts, with_name, with_octets, write}
 use Rattle.dns_name.specs.Page.Parts.{End, Octets, Named}
 use Rattle.dns_compression_laws.proofs.Tails.{behind, tail, write_is}
-use Rattle.dns_rdata.specs.Fields.{Field, IsData, Kind, Ipv4, Ipv6, Strings, field_octets, kind_of, kinds_of, octets}
+use Rattle.dns_rdata.specs.Fields.{Field, IsData, Kind, field_octets, kind_of, kinds_in, octets, table}
 use Rattle.dns_rdata.specs.Fields.{number8, number16, number32, ipv4, ipv6, compressible, uncompressed, string, strings, tag, rest_text, rest16, rest64}
 use Rattle.dns_rdata.specs.Fields.IsData.{typed, unknown}
 use Rattle.dns_rdata.specs.Written.{may_point, written_field, written_parts}
 use Rattle.dns_header.specs.Head.{after_length, fixed_octets, record_parts as parts_with}
 use Rattle.dns_header.specs.Written.{data_length}
-use Rattle.dns_message.specs.Record.{IsWritten, record_octets, record_parts}
+use Rattle.dns_message.specs.Record.{record_octets, record_parts}
 use Rattle.dns_message.specs.Record.IsWritten.{fields as in_row, untold}
 use Rattle.zone_records.specs.Record.{Record}
+use Rattle.zone_send.specs.SpelledSending.{may_have_pointer, IsWrittenAs}
 
 joined : (fixed d : List ℕ) (known : Known)
     → behind (fixed ++ after_length d) (record { octets = []; known = known })
@@ -56,38 +58,81 @@ field_parts (rest_text octets) more plain = refl
 field_parts (rest16 octets) more plain = refl
 field_parts (rest64 octets) more plain = refl
 
-row_parts : (kind : Kind) (row : List Field) → may_point kind ≡ false → map kind_of row ≡ kind ∷ [] → written_parts row ≡ Octets (octets row) End
-row_parts kind [] plain is = absurd (cc)
-row_parts kind (field ∷ []) plain is =
-    let same : kind_of field ≡ kind = cc in
-    field_parts field End (ap may_point same ∙ plain) ∙ ap (λ (l : List ℕ). Octets l End) (sym (append-nil (field_octets field)))
-row_parts kind (field ∷ other ∷ row) plain is = absurd (cc)
+-- whether no field of these kinds may be written with a pointer
+abbrev all_plain : List Kind → Bool
+all_plain [] = true
+all_plain (kind ∷ kinds) = if may_point kind then false else all_plain kinds
 
--- data of one field that is no name is written as it is stored
-pub opaque_written : (r : Record) (kind : Kind) → kinds_of r.rtype ≡ Some (kind ∷ []) → may_point kind ≡ false → IsData r.rtype r.rdata
-    → IsWritten r (record_parts r (Octets r.rdata End))
-opaque_written r kind one plain (typed row is data_is) =
-    let kinds : map kind_of row ≡ kind ∷ [] = let e : Some (map kind_of row) ≡ Some (kind ∷ []) = sym is.kinds ∙ one in cc in
-    let parts : written_parts row ≡ Octets r.rdata End = row_parts kind row plain kinds ∙ ap (λ (l : List ℕ). Octets l End) (sym data_is) in
-    let P : Parts → Type 0 = λ parts. IsWritten r (record_parts r parts) in
-    subst P parts (in_row row is data_is)
-opaque_written r kind one plain (unknown none short) = untold none
+-- whether each row of a table is of a type that may have a pointer, or has only fields that have none
+abbrev table_plain : List (ℕ × List Kind) → Bool
+table_plain [] = true
+table_plain (row ∷ rows) = if (if may_have_pointer row.0 then true else all_plain row.1) then table_plain rows else false
 
-pub opaque_type : (r : Record) (rtype : ℕ) → r.rtype ≡ rtype → (rtype == 1 || rtype == 28 || rtype == 16) ≡ true → IsData r.rtype r.rdata
-    → IsWritten r (record_parts r (Octets r.rdata End))
-opaque_type r rtype same is data_is = by_first (rtype == 1) refl
-  where
-    as_kind : (kind : Kind) (number : ℕ) → rtype ≡ number → kinds_of number ≡ Some (kind ∷ []) → may_point kind ≡ false
-        → IsWritten r (record_parts r (Octets r.rdata End))
-    as_kind kind number is one plain = opaque_written r kind (ap kinds_of (same ∙ is) ∙ one) plain data_is
+not_then : (test rest : Bool) → (if test then false else rest) ≡ true → (test ≡ false) × (rest ≡ true)
+not_then true rest is = absurd (let e : false ≡ true = is in cc)
+not_then false rest is = (refl, is)
 
-    by_second : (test : Bool) → (rtype == 28) ≡ test → (rtype == 1) ≡ false → IsWritten r (record_parts r (Octets r.rdata End))
-    by_second true second first = as_kind Ipv6 28 (grind (arith, nat_tests)) refl refl
-    by_second false second first = as_kind Strings 16 (let e : (rtype == 16) ≡ true = rw (first, second) at is in grind (arith, nat_tests)) refl refl
+else_of : (test rest : Bool) → (if test then true else rest) ≡ true → test ≡ false → rest ≡ true
+else_of true rest is not = absurd (cc)
+else_of false rest is not = is
 
-    by_first : (test : Bool) → (rtype == 1) ≡ test → IsWritten r (record_parts r (Octets r.rdata End))
-    by_first true first = as_kind Ipv4 1 (grind (arith, nat_tests)) refl refl
-    by_first false first = by_second (rtype == 28) refl first
+both_of : (first rest : Bool) → (if first then rest else false) ≡ true → (first ≡ true) × (rest ≡ true)
+both_of true rest is = (refl, is)
+both_of false rest is = absurd (let e : false ≡ true = is in cc)
+
+row_or_rows : (test : Bool) (first kinds : List Kind) (rest : Option (List Kind)) → (if test then Some first else rest) ≡ Some kinds
+    → (test ≡ true → all_plain first ≡ true) → (rest ≡ Some kinds → all_plain kinds ≡ true) → all_plain kinds ≡ true
+row_or_rows true first kinds rest is here there =
+    let same : first ≡ kinds = let e : Some first ≡ Some kinds = is in cc in ap all_plain (sym same) ∙ here refl
+row_or_rows false first kinds rest is here there = there is
+
+kinds_plain : (rtype : ℕ) (rows : List (ℕ × List Kind)) (kinds : List Kind) → table_plain rows ≡ true → may_have_pointer rtype ≡ false
+    → kinds_in rows rtype ≡ Some kinds → all_plain kinds ≡ true
+kinds_plain rtype [] kinds all not is = absurd (let e : None ≡ Some kinds = is in cc)
+kinds_plain rtype (row ∷ rows) kinds all not is =
+    let both = both_of (if may_have_pointer row.0 then true else all_plain row.1) (table_plain rows) all in
+    row_or_rows (rtype == row.0) row.1 kinds (kinds_in rows rtype) is
+    (λ test. let same : rtype ≡ row.0 = grind (arith, nat_tests) in
+    else_of (may_have_pointer row.0) (all_plain row.1) both.0 (ap may_have_pointer (sym same) ∙ not))
+    (λ there. kinds_plain rtype rows kinds both.1 not there)
+
+-- fields that are no names are their octets
+row_tail : (s : Spelling) (row : List Field) → all_plain (map kind_of row) ≡ true → (known : Known) (place : ℕ)
+    → tail s known place (written_parts row) ≡ tail s known place (Octets (octets row) End)
+row_tail s [] plain known place = refl
+row_tail s (field ∷ row) plain known place =
+    let first : List ℕ = field_octets field in
+    let both = not_then (may_point (kind_of field)) (all_plain (map kind_of row)) plain in
+    ap (tail s known place) (field_parts field (written_parts row) both.0)
+    ∙ ap (behind first) (row_tail s row both.1 known (place + length first))
+    ∙ λ i. record { octets = sym (append_assoc first (octets row) []) i; known = known }
+
+-- a record is written by the parts of its data
+same_parts : (s : Spelling) (page : Page) (r : Record) (first second : Parts)
+    → ((known : Known) (place : ℕ) → tail s known place first ≡ tail s known place second)
+    → write s page (record_parts r first) ≡ write s page (record_parts r second)
+same_parts s page r first second same =
+    let place : ℕ = length page.octets in
+    let tails : tail s page.known place (record_parts r first) ≡ tail s page.known place (record_parts r second) =
+    ap (λ (t : Page). behind (name_text s page.known place r.owner) (behind (fixed_octets r.rtype r.class r.ttl)
+    (behind (to_be_bytes w16 (length t.octets) ++ t.octets) (record { octets = []; known = t.known })))) (same _ _) in
+    write_is s page (record_parts r first) ∙ ap (behind page.octets) tails ∙ sym (write_is s page (record_parts r second))
+
+-- data of a type without a name that may be compressed is written as it is stored
+pub opaque_written : (s : Spelling) (r : Record) → may_have_pointer r.rtype ≡ false → IsData r.rtype r.rdata
+    → IsWrittenAs s r (record_parts r (Octets r.rdata End))
+opaque_written s r none_has (typed row is data_is) = record {
+  given = record_parts r (written_parts row);
+  is_written = in_row row is data_is;
+  same = λ page. same_parts s page r (Octets r.rdata End) (written_parts row)
+      (λ known place. ap (λ (l : List ℕ). tail s known place (Octets l End)) data_is
+      ∙ sym (row_tail s row (kinds_plain r.rtype table (map kind_of row) refl none_has is.kinds) known place));
+}
+opaque_written s r none_has (unknown none short) = record {
+  given = record_parts r (Octets r.rdata End);
+  is_written = untold none;
+  same = λ page. refl;
+}
 
 -- what is stored behind the owner
 pub behind_owner_is : (r : Record) (whole : List ℕ) (len : ℕ) → whole ≡ record_octets r → len ≡ length (wire r.owner)

@@ -1,17 +1,19 @@
 -- What a builder of a spelled message accepts and what it does not.
-use Rattle.std.proofs.Common.{◌≡◌, ℕ, ◌+◌, ◌<◌, ◌^◌, Bool, true, false, Result, Ok, Err, Some, None, Option, MatchOption, List, [], ◌∷◌, ◌++◌, length, map, refl, sym, ap, ◌∙◌, subst, arith, length-append}
+use Rattle.std.proofs.Common.{◌≡◌, ℕ, ◌+◌, ◌<◌, ◌≤◌, ◌^◌, Bool, true, false, Result, Ok, Err, Some, None, Option, MatchOption, List, [], ◌∷◌, ◌++◌, length, map, refl, sym, ap, ◌∙◌, subst, arith, append-nil, length-append}
 use Rattle.std.specs.Prelude.{◌≢◌, IsOk, IsErrAnd, IfOk, IfErr, OnOk, OnErr}
 use Rattle.std.specs.Bool.{OnTrue, OnFalse}
+use Rattle.std.specs.Int.{to_be_bytes, w16}
 use Rattle.std.specs.List.{push}
 use Rattle.std.proofs.lemmas.List.{map-append}
 use Rattle.dns_octets.specs.Builder.{IsPast}
 use Rattle.dns_name.specs.Spelling.{Spelling}
-use Rattle.dns_name.specs.Page.{Page, Parts}
+use Rattle.dns_name.specs.Page.{Page, Parts, write}
+use Rattle.dns_name.specs.RecordData.{page_of}
 use Rattle.dns_header.specs.Question.{Question, question_parts}
 use Rattle.dns_header.specs.Written.{Written, parts_of, data_length}
 use Rattle.dns_message.specs.PushError.{PushError}
 use Rattle.dns_message.specs.PushError.TheVariants.{ShortBuf, BadLength, LimitExceeded, CountOverflow, OutOfMemory}
-use Rattle.dns_builder.specs.Built.{Built, Draft, IsDraftOf, header_octets, nothing_built}
+use Rattle.dns_builder.specs.Built.{Built, Draft, IsDraftOf, header_octets, nothing_built, write_all}
 use Rattle.dns_builder.specs.Steps.{going_to, with_item, with_header, length_with, counted_at, IsTakenBy, IsRefusedBy, KeepsLimits}
 use Rattle.dns_builder.proofs.DraftPages.{counted_is}
 use Rattle.dns_rdata.specs.Data.{Data}
@@ -26,7 +28,7 @@ use Rattle.zone_records.specs.Record.{Record}
 use Rattle.zone_core.specs.Query.{AxfrQuery, question_of}
 use Rattle.zone_send.specs.Spelled.{spelled_size}
 use Rattle.zone_send.specs.Sending.{header_front}
-use Rattle.zone_send.specs.SpelledSending.{IsItem, answer_built, HoldsGroup, IsPushed}
+use Rattle.zone_send.specs.SpelledSending.{IsItem, IsWrittenAs, answer_built, HoldsGroup, IsPushed}
 use Rattle.zone_send.proofs.SpelledPages.{page_is, length_more, length_asked, length-items, record_long, data_shorter}
 
 -- how many octets a message has
@@ -38,15 +40,51 @@ long_is s query item group draft built = ap (λ (p : Page). length p.octets) bui
 past : (bound : Option ℕ) (most long : ℕ) → bound ≡ Some most → IsPast bound long → most < long
 past bound most long is more = let P : Option ℕ → Type 0 = λ b. IsPast b long in subst P is more
 
+-- answers whose last one is written the same by other parts
+module _ (s : Spelling) (query : AxfrQuery) (answers : List Parts) (first second : Parts)
+    (same : (page : Page) → write s page first ≡ write s page second) where
+  all_as : (page : Page) (before : List Parts) → write_all s page (before ++ first ∷ []) ≡ write_all s page (before ++ second ∷ [])
+  all_as page [] = same page
+  all_as page (item ∷ before) = all_as (write s page item) before
+
+  long_as : length (answers ++ second ∷ []) ≡ length (answers ++ first ∷ [])
+  long_as = length-append answers (second ∷ []) ∙ sym (length-append answers (first ∷ []))
+
+  head_as : page_of (header_octets (answer_built query (answers ++ first ∷ []))) []
+      ≡ page_of (header_octets (answer_built query (answers ++ second ∷ []))) []
+  head_as =
+      ap (λ n. page_of (header_front query ++ (to_be_bytes w16 1 ++ to_be_bytes w16 n ++ to_be_bytes w16 0 ++ to_be_bytes w16 0)) [])
+      (sym long_as)
+
+  written_as : (page : Page) → write_all s page (answers ++ first ∷ []) ≡ write_all s page ((answers ++ second ∷ []) ++ [])
+  written_as page = all_as page answers ∙ ap (write_all s page) (sym (append-nil (answers ++ second ∷ [])))
+
+  draft_as : (draft : Draft) → IsDraftOf s (answer_built query (answers ++ first ∷ [])) draft
+      → IsDraftOf s (answer_built query (answers ++ second ∷ [])) draft
+  draft_as draft is =
+      let question : Parts = question_parts (question_of query) in
+      let few : length (answers ++ first ∷ []) ≤ 65535 = is.few.1.0 in
+      record {
+        header = is.header;
+        few = (is.few.0, (omega (arith, few, long_as), is.few.1.1));
+        page = is.page
+            ∙ ap (λ (l : List Parts). write_all s (write s (page_of (header_octets (answer_built query (answers ++ first ∷ []))) []) question) l)
+            (append-nil (answers ++ first ∷ []))
+            ∙ written_as _
+            ∙ ap (λ (p : Page). write_all s (write s p question) ((answers ++ second ∷ []) ++ [])) head_as;
+        starts = is.starts
+            ∙ ap (λ (p : Page). length p.octets ∷ length (write s p question).octets ∷ []) head_as;
+      }
+
 -- a record whose push fails, but not with `OutOfMemory`, has no room
 refused_large : {s : Spelling} {query : AxfrQuery} {item : Record → Parts} {max : ℕ} {group : List Record} (r : Record) {draft : Draft}
-    (w : Written) (error : PushError) → HoldsGroup s query item max group draft → parts_of w ≡ item r
+    (w : Written) (error : PushError) → HoldsGroup s query item max group draft → ((page : Page) → write s page (parts_of w) ≡ write s page (item r))
     → IsRefusedBy s 1 draft (parts_of w) (65535 < data_length s draft.page w) error → error ≢ OutOfMemory
     → max < spelled_size s query item (push group r)
 refused_large {s} {query} {item} {max} {group} r {draft} w error holds is refused other = by_error error refused other
   where
     more : length_with s draft (parts_of w) ≡ spelled_size s query item (push group r)
-    more = ap (length_with s draft) is ∙ length_more s query item group r draft.page holds.built.page
+    more = ap (λ (p : Page). length p.octets) (is draft.page) ∙ length_more s query item group r draft.page holds.built.page
 
     by_error : (error : PushError) → IsRefusedBy s 1 draft (parts_of w) (65535 < data_length s draft.page w) error → error ≢ OutOfMemory
         → max < spelled_size s query item (push group r)
@@ -71,7 +109,7 @@ refused_large {s} {query} {item} {max} {group} r {draft} w error holds is refuse
 
 -- a record whose push succeeds is the last of the group
 taken_on : {s : Spelling} {query : AxfrQuery} {item : Record → Parts} {max : ℕ} {group : List Record} (r : Record) {old new : Draft}
-    (w : Written) → HoldsGroup s query item max group old → parts_of w ≡ item r
+    (w : Written) → HoldsGroup s query item max group old → ((page : Page) → write s page (parts_of w) ≡ write s page (item r))
     → IsDraftOf s (with_item (answer_built query (map item group)) (parts_of w)) new → IsTakenBy s 1 old (parts_of w) (65535 < data_length s old.page w)
     → KeepsLimits old new
     → IsPushed s query item max group r true new
@@ -87,13 +125,12 @@ taken_on {s} {query} {item} {max} {group} r {old} {new} w holds is built taken l
 )
   where
     more : length_with s old (parts_of w) ≡ spelled_size s query item (push group r)
-    more = ap (length_with s old) is ∙ length_more s query item group r old.page holds.built.page
-
-    answers : map item group ++ parts_of w ∷ [] ≡ map item (push group r)
-    answers = ap (λ (p : Parts). map item group ++ p ∷ []) is ∙ sym (map-append item group (r ∷ []))
+    more = ap (λ (p : Page). length p.octets) (is old.page) ∙ length_more s query item group r old.page holds.built.page
 
     built_new : IsDraftOf s (answer_built query (map item (push group r))) new
-    built_new = let P : List Parts → Type 0 = λ l. IsDraftOf s (answer_built query l) new in subst P answers built
+    built_new =
+        let P : List Parts → Type 0 = λ l. IsDraftOf s (answer_built query l) new in
+        subst P (sym (map-append item group (r ∷ []))) (draft_as s query (map item group) (parts_of w) (item r) is new built)
 
 -- a builder that did not change holds the same
 pub holds_still : {s : Spelling} {query : AxfrQuery} {item : Record → Parts} {max : ℕ} {group : List Record} {old new : Draft} → new ≡ old
@@ -101,23 +138,28 @@ pub holds_still : {s : Spelling} {query : AxfrQuery} {item : Record → Parts} {
 holds_still {s} {query} {item} {max} {group} same holds =
     let P : Draft → Type 0 = λ draft. HoldsGroup s query item max group draft in subst P (sym same) holds
 
+-- parts that are written as those of a writer are written as the item
+written_item : (s : Spelling) (item : Record → Parts) (r : Record) (parts : Parts) → IsItem item r → IsWrittenAs s r parts
+    → (page : Page) → write s page parts ≡ write s page (item r)
+written_item s item r parts items writes page = writes.same page ∙ ap (write s page) (items writes.given writes.is_written)
+
 -- what a push does
 pub pushed : {A : Type 0} (s : Spelling) (query : AxfrQuery) (item : Record → Parts) (max : ℕ) (group : List Record) (r : Record) (w : Written)
     (old new : Draft) (placed : Bool) (result : Result A PushError)
-    → IsItem item r → IsWritten r (parts_of w) → HoldsGroup s query item max group old
+    → IsItem item r → IsWrittenAs s r (parts_of w) → HoldsGroup s query item max group old
     → ((built : Built) → IsDraftOf s built old → OnOk result (IsDraftOf s (with_item built (parts_of w)) new))
     → OnOk result (IsTakenBy s 1 old (parts_of w) (65535 < data_length s old.page w)) → OnErr result (new ≡ old)
     → IfErr result (IsRefusedBy s 1 old (parts_of w) (65535 < data_length s old.page w)) → KeepsLimits old new
     → OnTrue placed (IsOk result) → OnFalse placed (IsErrAnd result (λ error. error ≢ OutOfMemory))
     → IsPushed s query item max group r placed new
 pushed s query item max group r w old new true (Ok x) items writes holds built taken same refused limits is_taken not_taken =
-    taken_on r w holds (items (parts_of w) writes) (built (answer_built query (map item group)) holds.built) taken limits
+    taken_on r w holds (written_item s item r (parts_of w) items writes) (built (answer_built query (map item group)) holds.built) taken limits
 pushed s query item max group r w old new true (Err e) items writes holds built taken same refused limits is_taken not_taken =
     let is_ok : false ≡ true = is_taken in absurd cc
 pushed s query item max group r w old new false (Ok x) items writes holds built taken same refused limits is_taken not_taken = absurd not_taken
 pushed s query item max group r w old new false (Err e) items writes holds built taken same refused limits is_taken not_taken = (
   holds_still same holds,
-  refused_large r w e holds (items (parts_of w) writes) refused not_taken,
+  refused_large r w e holds (written_item s item r (parts_of w) items writes) refused not_taken,
 )
 
 -- a message that has no question yet
@@ -209,7 +251,7 @@ asked {s = s} {query = query} {answers = answers} item q true (Ok x) begun is bu
 
 -- the same, whether or not the push succeeds
 pub pushed_by : {A E : Type 0} (s : Spelling) (r : Record) (w : Written) (old new : Draft) (result : Result A PushError) (answer : Result Bool E)
-    → IsWritten r (parts_of w)
+    → IsWrittenAs s r (parts_of w)
     → ((built : Built) → IsDraftOf s built old → OnOk result (IsDraftOf s (with_item built (parts_of w)) new))
     → OnOk result (IsTakenBy s 1 old (parts_of w) (65535 < data_length s old.page w)) → OnErr result (new ≡ old)
     → IfErr result (IsRefusedBy s 1 old (parts_of w) (65535 < data_length s old.page w)) → KeepsLimits old new
@@ -232,10 +274,13 @@ typed_by rr (unknown_data unknown) is none =
     let P : Data → Type 0 = λ rdata. let other = record rr { rdata = rdata } in IsWritten (record_of other) (written_parts_of other) in
     subst P (sym is) (untold none)
 
-pub typed_written : (rr : RecordOf (List (List ℕ)) Data) (r : Record) → HasFieldsOfType rr.rdata → record_of rr ≡ r
-    → IsWritten r (written_parts_of rr)
-typed_written rr r has is =
-    let P : Record → Type 0 = λ other. IsWritten other (written_parts_of rr) in subst P is (typed_by rr rr.rdata refl has)
+pub typed_written : (s : Spelling) (rr : RecordOf (List (List ℕ)) Data) (r : Record) → HasFieldsOfType rr.rdata → record_of rr ≡ r
+    → IsWrittenAs s r (written_parts_of rr)
+typed_written s rr r has is = record {
+  given = written_parts_of rr;
+  is_written = let P : Record → Type 0 = λ other. IsWritten other (written_parts_of rr) in subst P is (typed_by rr rr.rdata refl has);
+  same = λ page. refl;
+}
 
 -- a message that is begun, or none
 pub when_none : {A : Type 0} (begun : Option A) (P : Type 0) (Q : A → Type 0) → ((a : A) → begun ≡ Some a → ⊥) → MatchOption begun P Q → P

@@ -1,8 +1,8 @@
 -- What holds while messages are written with names in any spelling. Only contracts inside the crate use it.
-use Rattle.std.specs.Prelude.{◌≡◌, ◌+◌, ◌<◌, ◌≤◌, ◌^◌, ℕ, Bool, true, false, Some, List, [], ◌∷◌, ◌++◌, length, map, take, slice_get, IfSome}
+use Rattle.std.specs.Prelude.{◌≡◌, ◌==◌, ◌||◌, ◌+◌, ◌<◌, ◌≤◌, ◌^◌, ℕ, Bool, true, false, Some, List, [], ◌∷◌, ◌++◌, length, map, take, slice_get, IfSome}
 use Rattle.std.specs.List.{AllByRecursion, push}
 use Rattle.dns_name.specs.Spelling.{Spelling}
-use Rattle.dns_name.specs.Page.{Parts}
+use Rattle.dns_name.specs.Page.{Page, Parts, write}
 use Rattle.dns_header.specs.Question.{question_parts}
 use Rattle.dns_builder.specs.Built.{Built, Draft, IsDraftOf}
 use Rattle.dns_message.specs.Record.{IsWritten}
@@ -15,6 +15,19 @@ use Rattle.zone_send.specs.Spelled.{spelled_size}
 use Rattle.zone_send.specs.SpelledSent.{spelled_message, IsSpelledBlocked}
 use Rattle.zone_send.specs.declared.sending.error.SendError.{SendError}
 use Rattle.zone_send.specs.declared.sending.error.SendError.TheVariants as send_error
+
+-- Whether data of the type has a name that may be written with a pointer. These are the types of RFC 1035 with names in
+-- their data (RFC 3597 4): NS, MD, MF, CNAME, SOA, MB, MG, MR, PTR, MINFO and MX.
+abbrev pub may_have_pointer : ℕ → Bool
+may_have_pointer rtype =
+    rtype == 2 || rtype == 3 || rtype == 4 || rtype == 5 || rtype == 6 || rtype == 7 || rtype == 8 || rtype == 9
+    || rtype == 12 || rtype == 14 || rtype == 15
+
+-- The record is written as by parts that a writer gives for it, on every page.
+pub record IsWrittenAs (s : Spelling) (r : Record) (parts : Parts) : Type 0 where
+  pub given : Parts
+  pub is_written : IsWritten r given
+  pub same : (page : Page) → write s page parts ≡ write s page given
 
 -- this item is the parts that a writer gives for the record
 abbrev pub IsItem : (Record → Parts) → Record → Type 0

@@ -1,6 +1,7 @@
 //! Records that are written behind their owner as they are stored.
-ghost use Rattle.std.specs.Prelude.{◌≡◌, ◌==◌, ◌||◌};
+ghost use Rattle.std.specs.Prelude.{◌≡◌};
 ghost use Rattle.dns_name.specs.Page.Parts.{End, Octets};
+ghost use Rattle.zone_send.specs.SpelledSending.{may_have_pointer as spec_may_have_pointer};
 
 use dns_header::{ComposeRecord, compose_head};
 use dns_name::{AppendError, Composer, Rtype};
@@ -22,9 +23,19 @@ impl ComposeRecord for OpaqueRecord<'_> {
     }
 }
 
-/// Returns whether data of the type is one field that is no name.
-pub(crate) fn is_opaque(rtype: Rtype) -> bool
-    ensures { result ≡ (rtype == 1 || rtype == 28 || rtype == 16) }
+/// Returns whether data of the type has a name that may be written with a pointer (RFC 3597 4).
+pub(crate) fn may_have_pointer(rtype: Rtype) -> bool
+    ensures { result ≡ spec_may_have_pointer rtype }
 {
-    rtype == Rtype::A || rtype == Rtype::AAAA || rtype == Rtype::TXT
+    rtype == Rtype::NS
+        || rtype == Rtype::MD
+        || rtype == Rtype::MF
+        || rtype == Rtype::CNAME
+        || rtype == Rtype::SOA
+        || rtype == Rtype::MB
+        || rtype == Rtype::MG
+        || rtype == Rtype::MR
+        || rtype == Rtype::PTR
+        || rtype == Rtype::MINFO
+        || rtype == Rtype::MX
 }

@@ -18,7 +18,7 @@ ghost use Rattle.zone_send.specs.SpelledSending.{IsItem, AreItems, HoldsGroup, I
 
 use super::error::SendError;
 use super::header::header_of;
-use super::opaque::{OpaqueRecord, is_opaque};
+use super::opaque::{OpaqueRecord, may_have_pointer};
 use dns_message::{
     AnswerBuilder, HashCompressor, MessageBuilder, PushError, StaticCompressor, StreamTarget,
     TreeCompressor,
@@ -220,10 +220,10 @@ fn push_record<Target: FrameTarget>(
         IsItem item next.now → HoldsGroup Target.spelling query item max group (draft_of builder.old) →
         IsPushed Target.spelling query item max group next.now placed (draft_of builder.new)) }
 {
-    if is_opaque(next.rtype()) {
-        was_taken(builder.push_ref(&OpaqueRecord { inner: next }))
-    } else {
+    if may_have_pointer(next.rtype()) {
         was_taken(builder.push_ref(&typed_record(next)))
+    } else {
+        was_taken(builder.push_ref(&OpaqueRecord { inner: next }))
     }
 }
 
