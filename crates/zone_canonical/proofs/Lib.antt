@@ -9,8 +9,10 @@ mod Orders
 mod KeyOrder
 mod KeyDigits
 mod OwnerKeys
+mod NamesForms
 mod RecordForms
 mod SortedKeys
+mod TiedKeys
 mod ChangeLists
 mod Merged
 mod MergeSteps

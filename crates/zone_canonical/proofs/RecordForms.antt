@@ -1,5 +1,5 @@
 -- The canonical form of a record, as a function and as octets.
-use Rattle.std.proofs.Common.{◌≡◌, ℕ, ◌+◌, ◌-◌, List, [], ◌∷◌, ◌++◌, length, take, drop, map, true, refl, sym, ap, ◌∙◌, subst, arith, append_assoc, length-append}
+use Rattle.std.proofs.Common.{◌≡◌, ◌≤◌, ℕ, ◌+◌, ◌-◌, List, [], ◌∷◌, ◌++◌, length, take, drop, map, true, refl, sym, ap, ◌∙◌, subst, arith, append_assoc, length-append}
 use Rattle.std.specs.Prelude.{nat_eq}
 use Rattle.std.specs.Char.{to_ascii_lowercase}
 use Rattle.std.specs.Cmp.Lexicographic.{pointwise}
@@ -8,6 +8,7 @@ use Rattle.std.specs.List.{AllByRecursion, AllZip}
 use Rattle.std.specs.declared.cmp.Ordering.TheVariants.{Equal}
 use Rattle.std.proofs.Math.Seq.{take-append_seam, drop-append_seam}
 use Rattle.std.proofs.lemmas.Cmp.{tied_itself}
+use Rattle.std.proofs.lemmas.List.{length-drop, take-append-drop}
 use lib.Pointwise.{bytes_decides}
 use Rattle.dns_label.specs.Name.{low, wire}
 use Rattle.dns_wire.proofs.Case.{low_wire, wire_one}
@@ -19,7 +20,7 @@ use Rattle.dns_rdata.specs.Fields.{IsData}
 use Rattle.dns_rdata.specs.OctetsForm.{IsCanonicalData}
 use Rattle.zone_records.specs.Record.{Record}
 use Rattle.zone_canonical.specs.Canonical.{IsCanonicalOf, HasCanonicalForm}
-use Rattle.zone_canonical.specs.DataForm.{data_form}
+use Rattle.zone_canonical.specs.DataForm.{EndsInNames, data_form}
 use Rattle.zone_canonical.specs.Form.{form_of}
 use Rattle.zone_canonical.proofs.DataForms.{data_formed}
 use Rattle.zone_canonical.proofs.LawfulForms.{form_lawful, length-form}
@@ -123,4 +124,39 @@ form_appended r name old whole data' extended new start is whole_is name_is star
     ∙ ap (λ l. (old ++ l) ++ form)
     (name_lowered r.owner (take (length whole - length data') whole) (middle_of r) start head (start_is ∙ ap (λ (n : List (List ℕ)). length (wire n)) name_is))
     ∙ ap (λ l. l ++ form) (sym (append_assoc old owner (middle_of r)))
+    ∙ form_written r old is
+
+-- names are in the data
+pub place_within : (r : Record) (rtype place : ℕ) (data' : List ℕ) → rtype ≡ r.rtype → data' ≡ r.rdata → HasCanonicalForm r
+    → EndsInNames rtype place → place ≤ length data'
+place_within r rtype place data' rtype_is data_is has ends =
+    subst (λ (l : List ℕ). place ≤ length l) (sym data_is) (subst (λ n. EndsInNames n place) rtype_is ends r.rdata has.data_is).0
+
+-- the same, appended at once and then lowered from where its names are
+pub names_appended : (r : Record) (name : List (List ℕ)) (old whole appended new : List ℕ) (start place count : ℕ) → HasCanonicalForm r
+    → whole ≡ record_octets r → name ≡ r.owner → start ≡ length (wire name)
+    → appended ≡ old ++ (map to_ascii_lowercase (take start whole) ++ drop start whole) → EndsInNames r.rtype place → count ≡ length r.rdata - place
+    → new ≡ take (length appended - count) appended ++ map to_ascii_lowercase (drop (length appended - count) appended)
+    → new ≡ old ++ record_octets (form_of r)
+names_appended r name old whole appended new start place count is whole_is name_is start_is appended_is ends count_is new_is =
+    let owner = map to_ascii_lowercase (wire r.owner) in
+    let head = (old ++ owner) ++ middle_of r in
+    let front = head ++ take place r.rdata in
+    let names = drop place r.rdata in
+    let form = ends r.rdata is.data_is in
+    let parts : appended ≡ front ++ names =
+    appended_is
+    ∙ ap (λ l. old ++ l)
+    (name_lowered r.owner whole (middle_of r ++ r.rdata) start (whole_is ∙ in_parts r) (start_is ∙ ap (λ (n : List (List ℕ)). length (wire n)) name_is))
+    ∙ sym (append_assoc old owner (middle_of r ++ r.rdata))
+    ∙ sym (append_assoc (old ++ owner) (middle_of r) r.rdata)
+    ∙ ap (λ l. head ++ l) (sym (take-append-drop place r.rdata))
+    ∙ sym (append_assoc head (take place r.rdata) names) in
+    let long : length appended - count ≡ length front =
+    omega (arith, ap (length {A = ℕ}) parts, length-append front names, length-drop place r.rdata) in
+    new_is
+    ∙ (λ i. take (long i) (parts i) ++ map to_ascii_lowercase (drop (long i) (parts i)))
+    ∙ (λ i. take-append_seam front names i ++ map to_ascii_lowercase (drop-append_seam front names i))
+    ∙ append_assoc head (take place r.rdata) (map to_ascii_lowercase names)
+    ∙ ap (λ l. head ++ l) (sym form.1)
     ∙ form_written r old is

@@ -1,6 +1,7 @@
 -- The canonical form of data, as a function of its octets (RFC 4034 6.2). Only contracts inside the crate name it.
-use Rattle.std.specs.Prelude.{ℕ, List, [], ◌∷◌, ◌++◌, take, drop, Option, Some, None}
-use Rattle.dns_rdata.specs.Fields.{Kind, kinds_of}
+use Rattle.std.specs.Prelude.{◌≡◌, ◌≤◌, ℕ, List, [], ◌∷◌, ◌++◌, length, map, take, drop, Option, Some, None}
+use Rattle.std.specs.Char.{to_ascii_lowercase}
+use Rattle.dns_rdata.specs.Fields.{IsData, Kind, kinds_of}
 use Rattle.dns_rdata.specs.OctetsForm.{form_of_kind, len_in}
 
 -- the octets of fields of these kinds, with those of names in lower case
@@ -17,3 +18,9 @@ form_by (Some kinds) data' = fields_form kinds data'
 -- Data of a type in canonical form. If it is no data of the type, the value means nothing.
 unfoldable pub data_form : ℕ → List ℕ → List ℕ
 data_form rtype data' = form_by (kinds_of rtype) data'
+
+-- the canonical form of data of the type has all octets from this place on in lower case, and those before it as they are
+abbrev pub EndsInNames : ℕ → ℕ → Type 0
+EndsInNames rtype place =
+    (data' : List ℕ) → IsData rtype data'
+    → (place ≤ length data') × (data_form rtype data' ≡ take place data' ++ map to_ascii_lowercase (drop place data'))

@@ -1,5 +1,5 @@
 -- Records in canonical form, sorted by keys. Only contracts inside the crate name them.
-use Rattle.std.specs.Prelude.{◌≡◌, ℕ, List, map}
+use Rattle.std.specs.Prelude.{◌≡◌, ◌≢◌, ◌<◌, ◌≤◌, ℕ, List, length, map, slice_index_or}
 use Rattle.std.specs.Cmp.{IsTotalOrder, on_total, nat_cmp_total}
 use Rattle.std.specs.Ordering.{on, then_cmp, nat_cmp}
 use Rattle.std.specs.declared.cmp.Ordering.{Ordering}
@@ -45,3 +45,10 @@ keyed_cmp = then_cmp (on (λ (entry : Keyed). entry.key) nat_cmp) (on (λ (entry
 pub keyed_total : IsTotalOrder keyed_cmp
 unfolding keyed_cmp
 keyed_total = then_total (on_total (λ (entry : Keyed). entry.key) nat_cmp_total) (on_total (λ (entry : Keyed). entry.form) canonical_total)
+
+-- the entries from `start` to `end` have one key, and the one after them has another
+pub record EndsTie (entries : List Keyed) (start end : ℕ) : Type 0 where
+  pub after : start < end
+  pub within : end ≤ length entries
+  pub alike : (k : ℕ) (d : Keyed) → start ≤ k → k < end → (slice_index_or entries k d).key ≡ (slice_index_or entries start d).key
+  pub apart : (d : Keyed) → end < length entries → (slice_index_or entries end d).key ≢ (slice_index_or entries start d).key

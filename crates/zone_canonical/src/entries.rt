@@ -1,10 +1,10 @@
 //! The entries of lists of records.
 ghost use Rattle.std.specs.Prelude.{◌≡◌, ◌<◌, length, map, slice_get, Some, IfOk};
 ghost use Rattle.std.specs.List.{AllByRecursion};
-ghost use Rattle.std.specs.List.Sorted.{IsPermutation, IsSorted};
+ghost use Rattle.std.specs.List.Sorted.{IsNonDecreasingBy, IsPermutation, IsSorted};
 ghost use Rattle.zone_records.specs.Record as spec;
 ghost use Rattle.zone_canonical.specs.Canonical.{HasCanonicalForm};
-ghost use Rattle.zone_canonical.specs.Keyed.{AreEntriesOf, keyed, keyed_cmp};
+ghost use Rattle.zone_canonical.specs.Keyed.{AreEntriesOf, EndsTie, Keyed, keyed, keyed_cmp};
 
 use crate::entry::Entry;
 use crate::owner_key::owner_key;
@@ -45,7 +45,39 @@ fn sort(entries: &mut Vec<Entry<'_>>)
     if entries.is_sorted() {
         return;
     }
-    entries.sort_unstable();
+    entries.sort_unstable_by_key(|entry: &Entry<'_>| entry.key());
+    sort_ties(entries.as_mut_slice());
+}
+
+/// Sorts entries whose keys ascend already: those of each key by the whole order. In most zones few owners have equal
+/// keys and several records.
+fn sort_ties(entries: &mut [Entry<'_>])
+    requires { IsNonDecreasingBy (λ (entry : Keyed). entry.key) entries.old }
+    ensures permutation { IsPermutation entries.old entries.new }
+    ensures sorted { IsSorted keyed_cmp entries.new }
+{
+    let mut start = 0;
+    while start < entries.len() {
+        let end = end_of_tie(entries, start);
+        if end - start > 1 {
+            entries[start..end].sort_unstable();
+        }
+        start = end;
+    }
+}
+
+/// Returns where the entries end that have the key of the one at `start`.
+#[inline(always)]
+fn end_of_tie(entries: &[Entry<'_>], start: usize) -> usize
+    requires { start < length entries.now }
+    ensures { EndsTie entries.now start result }
+{
+    let key = entries[start].key();
+    let mut end = start + 1;
+    while end < entries.len() && entries[end].key() == key {
+        end += 1;
+    }
+    end
 }
 
 /// Returns the entries of the records, in the order of the list, with keys relative to the apex. Fails if out of memory.

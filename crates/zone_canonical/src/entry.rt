@@ -50,6 +50,14 @@ impl<'a> Entry<'a> {
         }
     }
 
+    /// Returns the key.
+    #[inline(always)]
+    pub(crate) fn key(&self) -> u128
+        ensures { result ≡ self.now.key }
+    {
+        self.key
+    }
+
     /// Returns the stored record.
     fn stored(&self) -> Record<'a>
         ensures form { form_of result ≡ self.now.form }

@@ -1,11 +1,11 @@
 //! Records in canonical form (RFC 4034 6.2): compared, and appended as octets. They are read where they are stored,
 //! without parsing.
-ghost use Rattle.std.specs.Prelude.{◌≡◌, ◌≤◌, ◌++◌, ℕ, List, IsTrue, OnOk, length, take, drop, map};
+ghost use Rattle.std.specs.Prelude.{◌≡◌, ◌≤◌, ◌-◌, ◌++◌, ℕ, List, IfSome, IsTrue, OnOk, length, take, drop, map};
 ghost use Rattle.std.specs.Char.{to_ascii_lowercase};
 ghost use Rattle.zone_records.specs.MessageRecord.{record_octets};
 ghost use Rattle.dns_wire.specs.Order.{labels_order};
 ghost use Rattle.zone_canonical.specs.Canonical.{HasCanonicalForm, canonical_cmp};
-ghost use Rattle.zone_canonical.specs.DataForm.{data_form};
+ghost use Rattle.zone_canonical.specs.DataForm.{EndsInNames, data_form};
 ghost use Rattle.zone_canonical.specs.Form.{form_of};
 
 use dns_name::{Name, Rtype, ToName};
@@ -57,15 +57,39 @@ pub(crate) fn append_form(record: &Record<'_>, octets: &mut Vec<u8>) -> Result<(
     }
     // Data in canonical form has the same length, so RDLENGTH stays too.
     let data = record.data();
+    if let Some(place) = names_at(record.rtype()) {
+        append_lowered(whole, owner.len(), octets)?;
+        lower_end(octets, data.len() - place);
+        return Ok(());
+    }
     append_lowered(&whole[..whole.len() - data.len()], owner.len(), octets)?;
     append_canonical_data(record.rtype(), data, octets)
 }
 
 /// Returns whether the type is one of the commonest whose data has no names, so that it is in canonical form.
+#[inline(always)]
 fn has_no_names(rtype: Rtype) -> bool
     ensures { IsTrue result → (rdata : List ℕ) → data_form rtype rdata ≡ rdata }
 {
-    matches!(rtype, Rtype::A | Rtype::AAAA | Rtype::TXT | Rtype::DS)
+    matches!(
+        rtype,
+        Rtype::A | Rtype::AAAA | Rtype::TXT | Rtype::DS | Rtype::HINFO | Rtype::CAA
+    )
+}
+
+/// Returns where the names are that the data of a type ends with, if it is one of the commonest such types. No octet of
+/// a name's wire form is a letter but those of its labels, so the form of such data has all octets from there on in
+/// lower case.
+#[inline(always)]
+fn names_at(rtype: Rtype) -> Option<usize>
+    ensures { IfSome result (λ place. EndsInNames rtype place) }
+{
+    match rtype {
+        Rtype::NS | Rtype::CNAME | Rtype::PTR | Rtype::RP => Some(0),
+        Rtype::MX => Some(2),
+        Rtype::SRV => Some(6),
+        _ => None,
+    }
 }
 
 /// Appends octets that begin with a name of this length, with its ASCII letters in lower case. Fails if out of memory.
@@ -80,4 +104,15 @@ fn append_lowered(source: &[u8], name_len: usize, octets: &mut Vec<u8>) -> Resul
     octets.extend_from_slice(source)?;
     octets.as_mut_slice()[start..start + name_len].make_ascii_lowercase();
     Ok(())
+}
+
+/// Puts the ASCII letters of the last octets in lower case.
+#[inline(always)]
+fn lower_end(octets: &mut Vec<u8>, count: usize)
+    requires { count ≤ length octets.old.items }
+    ensures { octets.new.items ≡ take (length octets.old.items - count) octets.old.items
+        ++ map to_ascii_lowercase (drop (length octets.old.items - count) octets.old.items) }
+{
+    let start = octets.len() - count;
+    octets.as_mut_slice()[start..].make_ascii_lowercase();
 }

@@ -104,6 +104,7 @@ impl<'a> Digits<'a> {
     }
 
     /// Takes the next seven digits, as one number. After the labels, every digit is 0.
+    #[inline(always)]
     fn next_half(&mut self) -> u64
         ensures digits { (left : ℕ) → code (7 + left) (map to_ascii_lowercase self.old.label.now) (reverse (low self.old.labels))
             ≡ result * 512 ^ left + code left (map to_ascii_lowercase self.new.label.now) (reverse (low self.new.labels)) }

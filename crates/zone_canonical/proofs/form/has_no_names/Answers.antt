@@ -13,3 +13,9 @@ returns-in-A-3 c = λ plain. plain_data c.args.rtype 16 (search rules) refl
 
 pub returns-in-A-4 : goal.returns-in-A-4
 returns-in-A-4 c = λ plain. plain_data c.args.rtype 43 (search rules) refl
+
+pub returns-in-A-5 : goal.returns-in-A-5
+returns-in-A-5 c = λ plain. plain_data c.args.rtype 13 (search rules) refl
+
+pub returns-in-A-6 : goal.returns-in-A-6
+returns-in-A-6 c = λ plain. plain_data c.args.rtype 257 (search rules) refl
