@@ -9,6 +9,7 @@ mod Orders
 mod KeyOrder
 mod KeyDigits
 mod OwnerKeys
+mod LowOctets
 mod NamesForms
 mod RecordForms
 mod SortedKeys

@@ -1,14 +1,13 @@
 -- Data that ends with names: its canonical form is its octets with those of the names in lower case.
 use Rattle.std.proofs.Common.{◌≡◌, ◌≤◌, ◌+◌, ℕ, zero, suc, Bool, true, false, List, [], ◌∷◌, ◌++◌, length, take, drop, map, refl, sym, ap, ◌∙◌, subst, arith}
-use Rattle.std.specs.Prelude.{Option, Some, None}
+use Rattle.std.specs.Prelude.{Some, None}
 use Rattle.std.specs.Char.{to_ascii_lowercase}
 use Rattle.std.specs.Int.{to_be_bytes, w16}
 use Rattle.std.specs.List.{AllByRecursion}
 use Rattle.std.proofs.lemmas.List.{map-append}
 use Rattle.dns_label.specs.Name.{low, wire}
 use Rattle.dns_wire.proofs.Case.{low_wire}
-use Rattle.dns_rdata.specs.Fields as fields
-use Rattle.dns_rdata.specs.Fields.{Kind, Number16, Compressible, Uncompressed, Field, number8, number16, number32, ipv4, ipv6, compressible, uncompressed, string, strings, tag, rest_text, rest16, rest64, kind_of, kinds_of, IsField, IsRow, IsData, octets, canonical_octets}
+use Rattle.dns_rdata.specs.Fields.{Kind, Number16, Compressible, Uncompressed, Field, number16, compressible, uncompressed, kind_of, kinds_of, IsField, octets, canonical_octets}
 use Rattle.dns_rdata.specs.OctetsForm.{IsCanonicalData, typed, unknown}
 use Rattle.zone_canonical.specs.DataForm.{EndsInNames, data_form}
 use Rattle.zone_canonical.proofs.DataForms.{data_formed}
@@ -25,7 +24,7 @@ are_low_from place kinds = false
 abbrev IsLowFrom : ℕ → List ℕ → List ℕ → Type 0
 IsLowFrom place data' form = (place ≤ length data') × (form ≡ take place data' ++ map to_ascii_lowercase (drop place data'))
 
-low_names : (name : List (List ℕ)) (behind form : List ℕ) → fields.IsField (compressible name) → IsLowFrom 0 behind form
+low_names : (name : List (List ℕ)) (behind form : List ℕ) → IsField (compressible name) → IsLowFrom 0 behind form
     → IsLowFrom 0 (wire name ++ behind) (wire (low name) ++ form)
 low_names name behind form is low =
     (omega arith,

@@ -14,6 +14,9 @@ use std::alloc::AllocError;
 use std::cmp::Ordering;
 use zone_records::record::Record;
 
+/// How many octets are put in lower case together.
+const BLOCK: usize = 16;
+
 /// Compares two records in canonical form: by owner, type and data (RFC 4034 6.1, 6.3), then by TTL, then by class.
 pub(crate) fn cmp_forms(record: &Record<'_>, other: &Record<'_>) -> Ordering
     requires one { HasCanonicalForm «record».now }
@@ -102,8 +105,23 @@ fn append_lowered(source: &[u8], name_len: usize, octets: &mut Vec<u8>) -> Resul
 {
     let start = octets.len();
     octets.extend_from_slice(source)?;
-    octets.as_mut_slice()[start..start + name_len].make_ascii_lowercase();
+    lower_front(&mut octets.as_mut_slice()[start..], name_len);
     Ok(())
+}
+
+/// Puts the ASCII letters of the first octets in lower case. Those of most owners are in two blocks of a known length,
+/// which takes fewer steps. The blocks may overlap: letters that are lowered twice are as those that are lowered once.
+#[inline(always)]
+fn lower_front(octets: &mut [u8], count: usize)
+    requires { count ≤ length octets.old }
+    ensures { octets.new ≡ map to_ascii_lowercase (take count octets.old) ++ drop count octets.old }
+{
+    if count < BLOCK || 2 * BLOCK < count {
+        octets[..count].make_ascii_lowercase();
+    } else {
+        octets[..BLOCK].make_ascii_lowercase();
+        octets[count - BLOCK..count].make_ascii_lowercase();
+    }
 }
 
 /// Puts the ASCII letters of the last octets in lower case.

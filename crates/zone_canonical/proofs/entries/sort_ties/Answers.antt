@@ -1,5 +1,5 @@
 use Rattle.std.proofs.Common.{◌-◌}
-use borrow.Rule.Slice.PartMut.{mid_of, put_mid}
+use borrow.Rule.Slice.PartMut.{put_mid}
 use Rattle.std.proofs.lemmas.List.Sorted.{IsPermutation-put_mid, IsPermutation-refl, IsPermutation-trans}
 use Rattle.zone_canonical.proofs.TiedKeys.{all_tied, none_tied, one_tied, run_tied}
 use Rattle.zone_canonical.proofs.entries.sort_ties.Goals as goal

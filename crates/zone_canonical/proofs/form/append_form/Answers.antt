@@ -1,4 +1,4 @@
-use Rattle.std.proofs.Common.{◌≡◌, ◌-◌, ℕ, List, length, sym, ap, ◌∙◌, subst, rules}
+use Rattle.std.proofs.Common.{◌-◌, ℕ, List, length, sym, ap, ◌∙◌, subst, rules}
 use Rattle.std.proofs.lemmas.Result.{on_ok_weaker}
 use Rattle.zone_canonical.specs.DataForm.{EndsInNames, data_form}
 use Rattle.zone_canonical.proofs.RecordForms.{form_appended, names_appended, place_within, plain_appended, read_formed}
