@@ -280,12 +280,16 @@ part_to_end octets places records index start are within last start_is =
     (omega (arith, long, length-append stands.front (record_octets at.0 ++ []), length-append (record_octets at.0) [])) in
     record { ordered = part.0; within = part.1; is = λ r is. part.2 ∙ ap record_octets (one_item records index at.0 r at.1 is) }
 
+take_none : {X : Type 0} (n : ℕ) → ◌≡◌ {A = List X} (take n []) []
+take_none zero = refl
+take_none (suc n) = refl
+
 -- the first records of a list and those behind them
 pub taken_from : {X : Type 0} (xs : List X) (first end : ℕ) → first ≤ end
     → take end xs ≡ take first xs ++ take (end - first) (drop first xs)
-taken_from xs zero end ordered = refl
+taken_from xs zero end ordered = let count : end ≡ end - 0 = omega arith in ap (λ n. take n xs) count
 taken_from [] (suc first) zero ordered = absurd (omega (arith, ordered))
-taken_from [] (suc first) (suc end) ordered = refl
+taken_from [] (suc first) (suc end) ordered = sym (take_none (suc end - suc first))
 taken_from (x ∷ xs) (suc first) zero ordered = absurd (omega (arith, ordered))
 taken_from (x ∷ xs) (suc first) (suc end) ordered =
     let count : end - first ≡ suc end - suc first = omega arith in
@@ -321,17 +325,6 @@ pub octets_to_end : (octets places : List ℕ) (records : List Record) (count : 
 octets_to_end octets places records count are all =
     let whole : take count records ≡ records = take_all count records (omega (arith, all, stored_length octets places records are)) in
     ap length are.whole ∙ ap (λ (l : List Record). length (flat_map record_octets l)) (sym whole)
-
--- the first records have no more octets than all
-pub octets_within : (octets places : List ℕ) (records : List Record) (count : ℕ) → AreStored octets places records
-    → length (flat_map record_octets (take count records)) ≤ length octets
-octets_within octets places records count are =
-    omega (
-      arith,
-      ap length are.whole,
-      ap (λ (l : List Record). length (flat_map record_octets l)) (take-append-drop count records),
-      octets_joined (take count records) (drop count records),
-    )
 
 -- records of the list that follow each other
 pub record ArePart (octets : List ℕ) (start to : ℕ) (records : List Record) (first end : ℕ) : Type 0 where

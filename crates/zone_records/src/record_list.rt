@@ -107,8 +107,7 @@ impl RecordList {
     /// Returns the number of octets of the first `count` records.
     pub fn octets_before(&self, count: usize) -> usize
         requires { count ≤ length self.now }
-        ensures long { result ≡ length (flat_map record_octets (take count self.now)) }
-        ensures few { result < 2 ^ 63 }
+        ensures { result ≡ length (flat_map record_octets (take count self.now)) }
     {
         if count < self.places.len() {
             self.places[count]

@@ -11,7 +11,7 @@ use Rattle.zone_core.specs.Query.{AxfrQuery}
 use Rattle.zone_core.specs.Cutting.{joined, IsNonempty, IsFullCut, FitsNotBehind, IsBlocked}
 use Rattle.zone_core.proofs.Greedy.{full_cut_closes, not_behind_last}
 use Rattle.zone_send.specs.Sent.{size, with_soa_again}
-use Rattle.zone_send.specs.Sending.{HoldsGroups, Holds, FitsNowhere, IsRun, octets_before}
+use Rattle.zone_send.specs.Sending.{IsFor, HoldsGroups, Holds, FitsNowhere, IsRun, octets_before}
 use Rattle.zone_send.specs.declared.sending.plain.Sender.{Sender}
 use Rattle.zone_send.proofs.Plain.{size_is, records_append}
 use Rattle.zone_send.proofs.PutRecords.{few_records, size-append, size-push}
@@ -60,6 +60,12 @@ run_size query records start end ordered =
     let ends = ap (λ (l : List Record). length (flat_map record_octets l)) (taken_from records start end ordered) in
     omega (arith, size-append query [] (run_of records start end), ends, records_append (take start records) (run_of records start end))
 
+-- the first records have no more octets than more of them
+pub octets_ordered : (records : List Record) (start end : ℕ) → start ≤ end → octets_before records start ≤ octets_before records end
+octets_ordered records start end ordered =
+    let ends = ap (λ (l : List Record). length (flat_map record_octets l)) (taken_from records start end ordered) in
+    omega (arith, ends, records_append (take start records) (run_of records start end))
+
 -- so many records are in a run
 pub run_length : (records : List Record) (start end : ℕ) → start ≤ end → end ≤ length records → length (run_of records start end) ≡ end - start
 run_length records start end ordered within =
@@ -70,6 +76,25 @@ run_length records start end ordered within =
       length-take-le end records within,
       length-take-le start records (omega (arith, ordered, within)),
     )
+
+-- which are no more than the octets that they have room for
+pub run_few : (records : List Record) (start end room : ℕ) → IsRun records start room end → end - start ≤ room
+run_few records start end room run =
+    let ends = ap (λ (l : List Record). length (flat_map record_octets l)) (taken_from records start end run.ordered) in
+    omega (
+      arith,
+      run_length records start end run.ordered run.within,
+      few_records (run_of records start end),
+      ends,
+      records_append (take start records) (run_of records start end),
+      run.fits,
+    )
+
+-- how much room records have in a message
+pub room_for : (sender other : Sender) (query : AxfrQuery) (room : ℕ) → IsFor sender query
+    → room ≡ sender.max - length sender.opening.items → other.max ≡ sender.max → room ≡ other.max - size query []
+room_for sender other query room is_for is same =
+    is ∙ ap (λ n. sender.max - n) (ap length is_for.opening) ∙ ap (λ n. n - size query []) (sym same)
 
 -- a run has room in a message
 pub run_fits : (query : AxfrQuery) (records : List Record) (max start end room : ℕ) → IsRun records start room end → start < end
@@ -92,7 +117,8 @@ run_begins : {X : Type 0} (xs : List X) (first end : ℕ) → first < end → en
     → (x : X) × (others : List X) × (slice_get xs first ≡ Some x) × (take (end - first) (drop first xs) ≡ x ∷ others)
 run_begins [] first end some within = absurd (omega (arith, some, within))
 run_begins (x ∷ xs) first zero some within = absurd (omega (arith, some))
-run_begins (x ∷ xs) zero (suc end) some within = (x, take end xs, refl, refl)
+run_begins (x ∷ xs) zero (suc end) some within =
+    let count : suc end - 0 ≡ suc end = omega arith in (x, take end xs, refl, ap (λ n. take n (x ∷ xs)) count)
 run_begins (x ∷ xs) (suc first) (suc end) some within =
     let begins = run_begins xs first end (omega (arith, some)) (omega (arith, within)) in
     let count : suc end - suc first ≡ end - first = omega arith in

@@ -1,5 +1,5 @@
 //! Sending a zone as the stream of its transfer.
-ghost use Rattle.std.specs.Prelude.{◌≡◌, ◌↔◌, ◌≤◌, ◌<◌, ◌^◌, [], length, IsTrue, IfOk, IfErr};
+ghost use Rattle.std.specs.Prelude.{◌≡◌, ◌↔◌, ◌≤◌, [], length, IsTrue, IfOk, IfErr};
 ghost use Rattle.std.specs.List.{AllByRecursion};
 ghost use Rattle.zone_records.specs.Typed.{HasLawfulData};
 ghost use Rattle.zone_core.specs.Asked.{asked_by};
@@ -120,13 +120,12 @@ fn send_records(mut sender: Sender, records: &RecordList) -> Result<Vec<u8>, Sen
 
 /// Returns the index behind the most of the next records, from index `start` on, whose octets have this room.
 fn run_end(records: &RecordList, start: usize, room: usize) -> usize
-    requires start { start ≤ length records.now }
-    requires room { room < 2 ^ 16 }
+    requires { start ≤ length records.now }
     ensures { IsRun records.now start room result }
 {
-    let limit = records.octets_before(start) + room;
+    let before = records.octets_before(start);
     for end in start..records.len() {
-        if records.octets_before(end + 1) > limit {
+        if records.octets_before(end + 1) - before > room {
             return end;
         }
     }

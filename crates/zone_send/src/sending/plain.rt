@@ -100,7 +100,8 @@ impl Sender {
         ensures max { OnOk result (self.new.max ≡ self.old.max) }
     {
         let start = self.open()?;
-        self.append(start, run, count)
+        self.append(start, run, count)?;
+        Ok(())
     }
 
     /// Returns the octets of the stream.

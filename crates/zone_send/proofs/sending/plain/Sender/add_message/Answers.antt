@@ -21,5 +21,5 @@ append-requires c =
 
 pub returns-clause-whole : goal.returns-clause-whole
 returns-clause-whole c = λ query groups group is so_many holds.
-    holds_last _ query c.in_ok-start.start groups group
-    (c.append.ensures.whole query groups [] _ _ group is so_many (c.in_ok-start.ensures.stands query groups holds))
+    holds_last c.append.new.self query c.in_ok-start.start groups group
+    (c.in_ok-append.ensures.whole query groups [] _ _ group is so_many (c.in_ok-start.ensures.stands query groups holds))

@@ -10,7 +10,7 @@ overflow_add-self c =
     let stands = c.requires.5 in
     let room = c.requires.6 in
     let more = c.requires.7 in
-    omega (arith, few_records group, few_records more, size_is query group, stands.is_for.small, stands.answers, room, ap length c.requires.8.0, c.requires.8.1)
+    omega (arith, few_records group, few_records more, size_is query group, stands.is_for.small, stands.answers, room, ap length c.requires.8, c.requires.9)
 
 pub returns-clause-whole : goal.returns-clause-whole
 returns-clause-whole c = λ query front group mark counted more is so_many stands.

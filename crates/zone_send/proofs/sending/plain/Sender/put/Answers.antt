@@ -1,6 +1,28 @@
 use Rattle.std.proofs.Common.{[], ◌∷◌, arith, ◌∙◌, ap, sym, refl, length}
-use Rattle.zone_send.proofs.PutRecords.{opening_short, alone_octets, size_alone, size-push, placed_behind, placed_alone, placed_nowhere}
+use Rattle.std.specs.Int.{to_be_bytes, w16}
+use Rattle.zone_send.specs.Sent.{size}
+use Rattle.zone_send.proofs.PutRecords.{last_at, length-stands, opening_short, alone_octets, size_alone, size-push, placed_behind, placed_alone, placed_nowhere}
 use Rattle.zone_send.proofs.sending.plain.Sender.put.Goals as goal
+
+pub append-requires : goal.append-requires
+append-requires c =
+    let query = c.requires.holds.0 in
+    let holds = c.requires.holds.2 in
+    let r = c.requires.is_record.0 in
+    let is = c.requires.is_record.1 in
+    let last = last_at c.args.self.now query c.in-Some.start holds.groups holds.holds c.in-Some.ensures.0 in
+    let long = length-stands c.args.self.now query c.in-Some.start last.front last.group _ _ last.stands in (
+      query,
+      last.front,
+      last.group,
+      to_be_bytes w16 (size query last.group),
+      to_be_bytes w16 (length last.group),
+      last.stands,
+      omega (arith, long, c.in-Some.ensures.1),
+      r ∷ [],
+      is ∙ sym (alone_octets r),
+      refl,
+    )
 
 pub returns-in-Some-clause-placed : goal.returns-in-Some-clause-placed
 returns-in-Some-clause-placed c = λ query records r is holds.
