@@ -13,7 +13,7 @@ use Rattle.zone_core.proofs.Greedy.{full_cut_closes, not_behind_last}
 use Rattle.zone_send.specs.Sent.{size, with_soa_again}
 use Rattle.zone_send.specs.Sending.{IsFor, HoldsGroups, Holds, FitsNowhere, IsRun, octets_before}
 use Rattle.zone_send.specs.declared.sending.plain.Sender.{Sender}
-use Rattle.zone_send.proofs.Plain.{size_is, records_append}
+use Rattle.zone_send.proofs.Plain.{records_append}
 use Rattle.zone_send.proofs.PutRecords.{few_records, size-append, size-push}
 use Rattle.zone_send.proofs.Streams.{record_blocked}
 

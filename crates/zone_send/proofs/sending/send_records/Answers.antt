@@ -1,6 +1,5 @@
-use Rattle.std.proofs.Common.{◌≡◌, ◌<◌, ◌∙◌, ℕ, refl, ap, sym, subst, arith, take, length, List}
-use Rattle.zone_records.specs.Record.{Record}
-use Rattle.zone_send.specs.Sending.{Holds, IsRun}
+use Rattle.std.proofs.Common.{◌≡◌, ◌<◌, ◌∙◌, ℕ, refl, ap, sym, subst, arith, take, length}
+use Rattle.zone_send.specs.Sending.{IsRun}
 use Rattle.zone_records.proofs.Indexed.{element_at}
 use Rattle.zone_send.proofs.Runs.{holds_of, full_at_first, run_of, run_length, run_few, run_fits, room_for, next_message, blocked_next}
 use Rattle.zone_send.proofs.Streams.{sent, some_of, all_again, soa_blocked, none_again}

@@ -1,4 +1,4 @@
-use Rattle.std.proofs.Common.{[], ◌∷◌, ◌∙◌, ap, length, arith}
+use Rattle.std.proofs.Common.{[], ◌∷◌, ap, length, arith}
 use Rattle.zone_send.proofs.PutRecords.{size-append, holds_last}
 use Rattle.zone_send.proofs.sending.plain.Sender.add_message.Goals as goal
 
