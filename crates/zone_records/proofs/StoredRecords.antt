@@ -4,7 +4,8 @@ use Rattle.std.specs.Prelude.{slice_get}
 use Rattle.std.specs.Int.{to_be_bytes, from_be_bytes, w16, w32}
 use Rattle.std.specs.List.{AllByRecursion, flat_map}
 use Rattle.std.proofs.Math.Seq.{take-append_seam, drop-append_seam}
-use Rattle.std.proofs.lemmas.List.{drop-drop}
+use Rattle.std.proofs.lemmas.List.{drop-drop, take_all, take-append-drop}
+use Rattle.std.proofs.lemmas.List.Concat.{flat_map-append}
 use Rattle.std.proofs.lemmas.Nat.{from_be_bytes-to_be_bytes_2, from_be_bytes-to_be_bytes_4}
 use Rattle.dns_label.specs.Name.{wire}
 use Rattle.dns_label.specs.Labels.{labels_at}
@@ -278,6 +279,74 @@ part_to_end octets places records index start are within last start_is =
     let part = part_of octets stands.front (record_octets at.0) [] start (length octets) whole (start_is ∙ stands.place start)
     (omega (arith, long, length-append stands.front (record_octets at.0 ++ []), length-append (record_octets at.0) [])) in
     record { ordered = part.0; within = part.1; is = λ r is. part.2 ∙ ap record_octets (one_item records index at.0 r at.1 is) }
+
+take_none : {X : Type 0} (n : ℕ) → ◌≡◌ {A = List X} (take n []) []
+take_none zero = refl
+take_none (suc n) = refl
+
+-- the first records of a list and those behind them
+pub taken_from : {X : Type 0} (xs : List X) (first end : ℕ) → first ≤ end
+    → take end xs ≡ take first xs ++ take (end - first) (drop first xs)
+taken_from xs zero end ordered = let count : end ≡ end - 0 = omega arith in ap (λ n. take n xs) count
+taken_from [] (suc first) zero ordered = absurd (omega (arith, ordered))
+taken_from [] (suc first) (suc end) ordered = sym (take_none (suc end - suc first))
+taken_from (x ∷ xs) (suc first) zero ordered = absurd (omega (arith, ordered))
+taken_from (x ∷ xs) (suc first) (suc end) ordered =
+    let count : end - first ≡ suc end - suc first = omega arith in
+    ap (λ l. x ∷ l) (taken_from xs first end (omega (arith, ordered)) ∙ ap (λ n. take first xs ++ take n (drop first xs)) count)
+
+-- the number of octets of two lists of records
+octets_joined : (front back : List Record)
+    → length (flat_map record_octets (front ++ back)) ≡ length (flat_map record_octets front) + length (flat_map record_octets back)
+octets_joined front back =
+    ap length (flat_map-append record_octets front back) ∙ length-append (flat_map record_octets front) (flat_map record_octets back)
+
+start_at : (place : ℕ) (records : List Record) (count d : ℕ) → count < length records
+    → get_or (starts place records) count d ≡ place + length (flat_map record_octets (take count records))
+start_at place [] count d within = absurd (omega (arith, within))
+start_at place (r ∷ records) zero d within = omega arith
+start_at place (r ∷ records) (suc count) d within =
+    omega (
+      arith,
+      start_at (place + length (record_octets r)) records count d (omega (arith, within)),
+      length-append (record_octets r) (flat_map record_octets (take count records)),
+    )
+
+-- the place of a record is the number of octets before it
+pub octets_to_place : (octets places : List ℕ) (records : List Record) (count place : ℕ) → AreStored octets places records
+    → count < length places → place ≡ get_or places count place → place ≡ length (flat_map record_octets (take count records))
+octets_to_place octets places records count place are within is =
+    let P : List ℕ → Type 0 = λ l. place ≡ get_or l count place in
+    omega (arith, subst P are.begin is, start_at 0 records count place (omega (arith, within, stored_length octets places records are)))
+
+-- and all octets are those of all records
+pub octets_to_end : (octets places : List ℕ) (records : List Record) (count : ℕ) → AreStored octets places records
+    → length places ≤ count → length octets ≡ length (flat_map record_octets (take count records))
+octets_to_end octets places records count are all =
+    let whole : take count records ≡ records = take_all count records (omega (arith, all, stored_length octets places records are)) in
+    ap length are.whole ∙ ap (λ (l : List Record). length (flat_map record_octets l)) (sym whole)
+
+-- records of the list that follow each other
+pub record ArePart (octets : List ℕ) (start to : ℕ) (records : List Record) (first end : ℕ) : Type 0 where
+  pub ordered : start ≤ to
+  pub within : to ≤ length octets
+  pub are : take (to - start) (drop start octets) ≡ flat_map record_octets (take (end - first) (drop first records))
+
+pub part_between : (octets places : List ℕ) (records : List Record) (first end start to : ℕ) → AreStored octets places records
+    → first ≤ end → start ≡ length (flat_map record_octets (take first records)) → to ≡ length (flat_map record_octets (take end records))
+    → ArePart octets start to records first end
+part_between octets places records first end start to are ordered at at' =
+    let front : List Record = take first records in
+    let own : List Record = take (end - first) (drop first records) in
+    let behind : List Record = drop end records in
+    let ends : take end records ≡ front ++ own = taken_from records first end ordered in
+    let split : records ≡ front ++ (own ++ behind) = sym (take-append-drop end records) ∙ ap (λ l. l ++ behind) ends ∙ append_assoc front own behind in
+    let whole : octets ≡ flat_map record_octets front ++ (flat_map record_octets own ++ flat_map record_octets behind) =
+    are.whole ∙ ap (flat_map record_octets) split ∙ flat_map-append record_octets front (own ++ behind)
+    ∙ ap (λ l. flat_map record_octets front ++ l) (flat_map-append record_octets own behind) in
+    let long = ap (λ (l : List Record). length (flat_map record_octets l)) ends ∙ octets_joined front own in
+    let part = part_of octets (flat_map record_octets front) (flat_map record_octets own) (flat_map record_octets behind) start to whole at (at' ∙ long) in
+    record { ordered = part.0; within = part.1; are = part.2 }
 
 -- the owner's octets are a name, which is the record's
 pub owner_front : (octets : List ℕ) (len : ℕ) → IsStored octets len → take len octets ≡ wire (record_in octets).owner

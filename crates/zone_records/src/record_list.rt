@@ -1,5 +1,5 @@
 //! Records in one vector, one after another.
-ghost use Rattle.std.specs.Prelude.{◌≡◌, ◌==◌, ◌<◌, ◌-◌, ◌^◌, ◌++◌, ◌∷◌, [], List, length, take, slice_get, Some, OnOk, OnErr};
+ghost use Rattle.std.specs.Prelude.{◌≡◌, ◌==◌, ◌<◌, ◌≤◌, ◌-◌, ◌^◌, ◌++◌, ◌∷◌, [], List, length, take, drop, flat_map, slice_get, Some, OnOk, OnErr};
 ghost use Rattle.dns_message.specs.HeaderRecord.{with_labels};
 ghost use Rattle.dns_message.specs.Held.{record_of};
 ghost use Rattle.dns_message.specs.Record.{IsRecord, record_octets};
@@ -102,6 +102,29 @@ impl RecordList {
         ensures { result ≡ (length self.now == 0) }
     {
         self.places.is_empty()
+    }
+
+    /// Returns the number of octets of the first `count` records.
+    pub fn octets_before(&self, count: usize) -> usize
+        requires { count ≤ length self.now }
+        ensures { result ≡ length (flat_map record_octets (take count self.now)) }
+    {
+        if count < self.places.len() {
+            self.places[count]
+        } else {
+            self.octets.len()
+        }
+    }
+
+    /// Returns the octets of the records from index `first` up to index `end`, one record after another.
+    pub fn octets_between(&self, first: usize, end: usize) -> &[u8]
+        requires ordered { first ≤ end }
+        requires within { end ≤ length self.now }
+        ensures { result.now ≡ flat_map record_octets (take (end - first) (drop first self.now)) }
+    {
+        let start = self.octets_before(first);
+        let end = self.octets_before(end);
+        &self.octets.as_slice()[start..end]
     }
 
     /// Returns the octets of the record at `index`.

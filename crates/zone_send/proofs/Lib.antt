@@ -8,6 +8,7 @@ pub mod LastRecord
 mod Patched
 pub mod PutRecords
 pub mod Plain
+pub mod Runs
 pub mod SendFaults
 pub mod SentOnce
 pub mod SentTransfers

@@ -23,6 +23,16 @@ pub few_records : (group : List Record) → length group ≤ length (flat_map re
 few_records [] = omega arith
 few_records (r ∷ group) = omega (arith, few_records group, least_record r, length-append (record_octets r) (flat_map record_octets group))
 
+-- a message with more records has the octets of these records more
+pub size-append : (query : AxfrQuery) (group more : List Record)
+    → size query (group ++ more) ≡ size query group + length (flat_map record_octets more)
+size-append query group more =
+    omega (arith, size_is query group, size_is query (group ++ more), records_append group more)
+
+-- the octets of one record
+pub alone_octets : (r : Record) → flat_map record_octets (r ∷ []) ≡ record_octets r
+alone_octets r = append-nil (record_octets r)
+
 -- a message with one more record has the octets of that record more
 pub size-push : (query : AxfrQuery) (group : List Record) (r : Record) → size query (push group r) ≡ size query group + length (record_octets r)
 size-push query group r =
@@ -157,25 +167,25 @@ opening_short sender query is_for =
       length-append name (0 ∷ 252 ∷ []),
     )
 
--- a record is added, and the length and the count are overwritten
+-- records are added, and the length and the count are overwritten
 pub appended : (old new : Sender) (query : AxfrQuery) (start : ℕ) (front : List (List Record)) (group : List Record) (mark count : List ℕ)
-    (r : Record) (longer once : List ℕ) (len answers : ℕ) → Stands old query start front group mark count → IsFor new query
-    → new.last ≡ Some start → new.answers ≡ answers → answers ≡ old.answers + 1
-    → longer ≡ old.stream.items ++ record_octets r → len ≡ length longer - start
+    (more : List Record) (longer once : List ℕ) (len answers : ℕ) → Stands old query start front group mark count → IsFor new query
+    → new.last ≡ Some start → new.answers ≡ answers → answers ≡ old.answers + length more
+    → longer ≡ old.stream.items ++ flat_map record_octets more → len ≡ length longer - start
     → ((a b c : List ℕ) → longer ≡ a ++ (b ++ c) → length a ≡ start - 2 → length b ≡ 2 → once ≡ a ++ (to_be_bytes w16 len ++ c))
     → ((a b c : List ℕ) → once ≡ a ++ (b ++ c) → length a ≡ start + 6 → length b ≡ 2 → new.stream.items ≡ a ++ (to_be_bytes w16 answers ++ c))
-    → StandsWhole new query start front (push group r)
-appended old new query start front group mark count r longer once len answers stands is_for last counts one_more grows len_is first second =
+    → StandsWhole new query start front (group ++ more)
+appended old new query start front group mark count more longer once len answers stands is_for last counts so_many grows len_is first second =
     let frames_octets : List ℕ = frames (map (message query) front) in
-    let octets = written_over frames_octets mark (before_count query) count (behind_count query) (flat_map record_octets group) (record_octets r)
+    let octets = written_over frames_octets mark (before_count query) count (behind_count query) (flat_map record_octets group) (flat_map record_octets more)
     (to_be_bytes w16 len) (to_be_bytes w16 answers) old.stream.items longer once new.stream.items start
     stands.place refl stands.mark_long stands.count_long refl stands.octets grows first second in
     let long = length-stands old query start front group mark count stands in
-    let size_new : len ≡ size query (push group r) =
-    omega (arith, ap length grows, length-append old.stream.items (record_octets r), size-push query group r, len_is, long) in
-    let answers_new : answers ≡ length (push group r) = omega (arith, length-append group (r ∷ []), one_more, stands.answers) in
-    let records_new : flat_map record_octets group ++ record_octets r ≡ flat_map record_octets (push group r) =
-    ap (λ l. flat_map record_octets group ++ l) (sym (append-nil (record_octets r))) ∙ sym (flat_map-append record_octets group (r ∷ [])) in
+    let size_new : len ≡ size query (group ++ more) =
+    omega (arith, ap length grows, length-append old.stream.items (flat_map record_octets more), size-append query group more, len_is, long) in
+    let answers_new : answers ≡ length (group ++ more) = omega (arith, length-append group more, so_many, stands.answers) in
+    let records_new : flat_map record_octets group ++ flat_map record_octets more ≡ flat_map record_octets (group ++ more) =
+    sym (flat_map-append record_octets group more) in
     let f : ℕ → ℕ → List ℕ → List ℕ = λ l n records. frames_octets ++ (to_be_bytes w16 l ++ (before_count query ++ (to_be_bytes w16 n ++ (behind_count query ++ records)))) in
     record {
       is_for = is_for;
@@ -184,7 +194,7 @@ appended old new query start front group mark count r longer once len answers st
       answers = counts ∙ answers_new;
       mark_long = refl;
       count_long = refl;
-      octets = octets ∙ ap (λ l. f l answers (flat_map record_octets group ++ record_octets r)) size_new
-          ∙ ap (λ n. f (size query (push group r)) n (flat_map record_octets group ++ record_octets r)) answers_new
-          ∙ ap (λ records. f (size query (push group r)) (length (push group r)) records) records_new;
+      octets = octets ∙ ap (λ l. f l answers (flat_map record_octets group ++ flat_map record_octets more)) size_new
+          ∙ ap (λ n. f (size query (group ++ more)) n (flat_map record_octets group ++ flat_map record_octets more)) answers_new
+          ∙ ap (λ records. f (size query (group ++ more)) (length (group ++ more)) records) records_new;
     }

@@ -1,5 +1,5 @@
 -- What a sender holds while its stream grows. Only contracts inside the crate use it.
-use Rattle.std.specs.Prelude.{◌≡◌, ◌+◌, ◌<◌, ◌^◌, ℕ, Option, Some, None, List, [], ◌∷◌, ◌++◌, length, map, flat_map}
+use Rattle.std.specs.Prelude.{◌≡◌, ◌+◌, ◌<◌, ◌≤◌, ◌^◌, ℕ, Option, Some, None, List, [], ◌∷◌, ◌++◌, length, take, map, flat_map}
 use Rattle.std.specs.Prelude.{if◌then◌else◌}
 use Rattle.std.specs.Int.{to_be_bytes, w16}
 use Rattle.std.specs.List.{push}
@@ -87,6 +87,17 @@ pub record FitsNowhere (sender : Sender) (query : AxfrQuery) (records : List Rec
   pub cut : IsFullCut (size query) sender.max records groups
   pub behind : FitsNotBehind (size query) sender.max groups r
   pub alone : sender.max < size query (r ∷ [])
+
+-- so many octets have the first records of these
+abbrev pub octets_before : List Record → ℕ → ℕ
+octets_before records count = length (flat_map record_octets (take count records))
+
+-- the records from index `start` up to index `end` have this room, and with the next one they do not
+pub record IsRun (records : List Record) (start room end : ℕ) : Type 0 where
+  pub ordered : start ≤ end
+  pub within : end ≤ length records
+  pub fits : octets_before records end ≤ octets_before records start + room
+  pub full : end < length records → octets_before records start + room < octets_before records (end + 1)
 
 -- why the stream ends early
 abbrev pub IsRefusedBy : AxfrQuery → ℕ → List Record → SendError → Type 0

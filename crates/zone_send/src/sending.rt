@@ -1,5 +1,5 @@
 //! Sending a zone as the stream of its transfer.
-ghost use Rattle.std.specs.Prelude.{◌≡◌, ◌↔◌, [], IsTrue, IfOk, IfErr};
+ghost use Rattle.std.specs.Prelude.{◌≡◌, ◌↔◌, ◌≤◌, [], length, IsTrue, IfOk, IfErr};
 ghost use Rattle.std.specs.List.{AllByRecursion};
 ghost use Rattle.zone_records.specs.Typed.{HasLawfulData};
 ghost use Rattle.zone_core.specs.Asked.{asked_by};
@@ -7,7 +7,7 @@ ghost use Rattle.zone_core.specs.Query.{AxfrQuery};
 ghost use Rattle.zone_send.specs.Sent.{AsksFor, IsSent};
 ghost use Rattle.zone_send.specs.SentBy.{IsSentBy, IsSendFault, IsRefusedFor};
 ghost use Rattle.zone_send.specs.Best.{FitsNoMessages, IfRecord, IsSentFor};
-ghost use Rattle.zone_send.specs.Sending.{Holds, IsRefusedBy};
+ghost use Rattle.zone_send.specs.Sending.{Holds, IsRefusedBy, IsRun};
 ghost use Rattle.zone.specs.View.{apex_of};
 
 mod error;
@@ -102,13 +102,32 @@ fn send_records(mut sender: Sender, records: &RecordList) -> Result<Vec<u8>, Sen
     ensures err { IfErr result (λ error. (query : AxfrQuery) → Holds sender query [] →
         IsRefusedBy query sender.max records.now error) }
 {
-    for i in 0..records.len() {
-        if !sender.put(records.octets_at(i))? {
-            return Err(SendError::Record(i + 1));
+    let room = sender.room();
+    let mut start = 0;
+    while start < records.len() {
+        let end = run_end(records, start, room);
+        if end == start {
+            return Err(SendError::Record(start + 1));
         }
+        sender.add_message(records.octets_between(start, end), (end - start) as u16)?;
+        start = end;
     }
     if !records.is_empty() && !sender.put(records.octets_at(0))? {
         return Err(SendError::Record(records.len() + 1));
     }
     Ok(sender.into_stream())
+}
+
+/// Returns the index behind the most of the next records, from index `start` on, whose octets have this room.
+fn run_end(records: &RecordList, start: usize, room: usize) -> usize
+    requires { start ≤ length records.now }
+    ensures { IsRun records.now start room result }
+{
+    let before = records.octets_before(start);
+    for end in start..records.len() {
+        if records.octets_before(end + 1) - before > room {
+            return end;
+        }
+    }
+    records.len()
 }

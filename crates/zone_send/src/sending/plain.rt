@@ -1,5 +1,5 @@
 //! The stream of a transfer while it grows.
-ghost use Rattle.std.specs.Prelude.{◌≡◌, ◌+◌, ◌≤◌, ◌<◌, ◌^◌, ◌++◌, [], ◌∷◌, ℕ, List, length, IfOk, OnOk, MatchOption, Some};
+ghost use Rattle.std.specs.Prelude.{◌≡◌, ◌+◌, ◌-◌, ◌≤◌, ◌<◌, ◌^◌, ◌++◌, [], ◌∷◌, ℕ, List, length, flat_map, IfOk, OnOk, MatchOption, Some};
 ghost use Rattle.std.specs.Int.{to_be_bytes, w16};
 ghost use Rattle.dns_label.specs.Name.{IsName};
 ghost use Rattle.dns_message.specs.Record.{record_octets};
@@ -71,15 +71,37 @@ impl Sender {
     {
         let len = record.len();
         if let Some(start) = self.last_with_room(len) {
-            self.append(start, record)?;
+            self.append(start, record, 1)?;
             return Ok(true);
         }
         if self.opening.len() + len > self.max {
             return Ok(false);
         }
         let start = self.open()?;
-        self.append(start, record)?;
+        self.append(start, record, 1)?;
         Ok(true)
+    }
+
+    /// Returns how many octets the records of a message can have.
+    pub(crate) fn room(&self) -> usize
+        ensures { result ≡ self.now.max - length self.now.opening.items }
+    {
+        self.max.saturating_sub(self.opening.len())
+    }
+
+    /// Adds a message with so many written records, which have room in it. Fails if out of memory.
+    pub(crate) fn add_message(&mut self, run: &[u8], count: u16) -> Result<(), AllocError>
+        requires { (query : AxfrQuery) × (groups : List (List spec.Record)) × HoldsGroups self.old query groups ×
+            (group : List spec.Record) × («run».now ≡ flat_map record_octets group) × (count ≡ length group) ×
+            (size query group ≤ self.old.max) }
+        ensures whole { OnOk result ((query : AxfrQuery) (groups : List (List spec.Record)) (group : List spec.Record) →
+            «run».now ≡ flat_map record_octets group → count ≡ length group → HoldsGroups self.old query groups →
+            HoldsGroups self.new query (push groups group)) }
+        ensures max { OnOk result (self.new.max ≡ self.old.max) }
+    {
+        let start = self.open()?;
+        self.append(start, run, count)?;
+        Ok(())
     }
 
     /// Returns the octets of the stream.
@@ -118,19 +140,19 @@ impl Sender {
         Ok(start)
     }
 
-    /// Adds a record to the last message, which begins at `start` and has room for it, and counts it. Fails if out of
-    /// memory.
-    fn append(&mut self, start: usize, record: &[u8]) -> Result<(), AllocError>
-        requires { (query : AxfrQuery) × (front : List (List spec.Record)) × (group : List spec.Record) × (mark count : List ℕ) ×
-            Stands self.old query start front group mark count × (size query group + length «record».now ≤ self.old.max)
-            × (r : spec.Record) × («record».now ≡ record_octets r) }
-        ensures whole { OnOk result ((query : AxfrQuery) (front : List (List spec.Record)) (group : List spec.Record) (mark count : List ℕ)
-            (r : spec.Record) → «record».now ≡ record_octets r → Stands self.old query start front group mark count →
-            StandsWhole self.new query start front (push group r)) }
+    /// Adds so many written records to the last message, which begins at `start` and has room for them, and counts them.
+    /// Fails if out of memory.
+    fn append(&mut self, start: usize, run: &[u8], count: u16) -> Result<(), AllocError>
+        requires { (query : AxfrQuery) × (front : List (List spec.Record)) × (group : List spec.Record) × (mark counted : List ℕ) ×
+            Stands self.old query start front group mark counted × (size query group + length «run».now ≤ self.old.max) ×
+            (more : List spec.Record) × («run».now ≡ flat_map record_octets more) × (count ≡ length more) }
+        ensures whole { OnOk result ((query : AxfrQuery) (front : List (List spec.Record)) (group : List spec.Record) (mark counted : List ℕ)
+            (more : List spec.Record) → «run».now ≡ flat_map record_octets more → count ≡ length more →
+            Stands self.old query start front group mark counted → StandsWhole self.new query start front (group ++ more)) }
         ensures max { OnOk result (self.new.max ≡ self.old.max) }
     {
-        self.stream.extend_from_slice(record)?;
-        self.answers += 1;
+        self.stream.extend_from_slice(run)?;
+        self.answers += count;
         let len = (self.stream.len() - start) as u16;
         put_number(&mut self.stream, start - LENGTH_OCTETS, len);
         put_number(&mut self.stream, start + ANSWER_COUNT, self.answers);
