@@ -53,7 +53,7 @@ lowered_twice xs first second count back size many few within back_is size_is fi
     sym (take-append-drop back xs)
     ∙ ap (λ l. p ++ l)
     (sym (take-append-drop (16 - back) (drop back xs))
-        ∙ ap (λ l. q ++ l) (drop-drop (16 - back) back xs ∙ ap (λ n. drop n xs) seam ∙ behind)) in
+    ∙ ap (λ l. q ++ l) (drop-drop (16 - back) back xs ∙ ap (λ n. drop n xs) seam ∙ behind)) in
     let whole' : xs ≡ (p ++ (q ++ r)) ++ s = whole ∙ ap (λ l. p ++ l) (sym (append_assoc q r s)) ∙ sym (append_assoc p (q ++ r) s) in
     let front : take 16 xs ≡ p ++ q =
     ap (take 16) (whole ∙ sym (append_assoc p q (r ++ s)))

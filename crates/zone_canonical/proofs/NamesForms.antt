@@ -26,9 +26,10 @@ IsLowFrom place data' form = (place ≤ length data') × (form ≡ take place da
 
 low_names : (name : List (List ℕ)) (behind form : List ℕ) → IsField (compressible name) → IsLowFrom 0 behind form
     → IsLowFrom 0 (wire name ++ behind) (wire (low name) ++ form)
-low_names name behind form is low =
-    (omega arith,
-    (λ i. sym (low_wire name is.labels) i ++ low.1 i) ∙ sym (map-append to_ascii_lowercase (wire name) behind))
+low_names name behind form is low = (
+  omega arith,
+  (λ i. sym (low_wire name is.labels) i ++ low.1 i) ∙ sym (map-append to_ascii_lowercase (wire name) behind),
+)
 
 low_row : (place : ℕ) (row : List Field) → AllByRecursion IsField row → are_low_from place (map kind_of row) ≡ true
     → IsLowFrom place (octets row) (canonical_octets row)

@@ -110,7 +110,7 @@ module _ (xs ys : List Keyed) (a e : ℕ) (ends : EndsTie xs a e) (moved : IsPer
   -- all entries of the run have its key
   part_keys : (d : Keyed) → All (λ (entry : Keyed). entry.key ≡ (get_or xs a d).key) ys
   part_keys d = All-permutation (λ (entry : Keyed). entry.key ≡ (get_or xs a d).key) (mid_of a (e - a) xs) ys moved
-    (λ k e' less.
+      (λ k e' less.
       let short : k < e - a = omega (arith, mid_long) in
       ap key_in (get_or-take (e - a) (drop a xs) k e' short ∙ get_or-drop a xs k e')
       ∙ ends.alike (a + k) e' (omega arith) (omega arith)

@@ -154,17 +154,17 @@ next_message old new query records start end room full run some room_is same add
     let R : List Record → Type 0 = λ rs. IsFullCut (size query) old.max rs (push full.groups run') in
     let M : ℕ → Type 0 = λ max. IsFullCut (size query) max (take end records) (push full.groups run') in
     let large : (r : Record) → slice_get records end ≡ Some r → FitsNotBehind (size query) new.max (push full.groups run') r = λ r at.
-        let over : new.max < size query (push run' r) =
-        omega (
-          arith,
-          size-push query run' r,
-          run_size query records start end run.ordered,
-          next_octets records end r at,
-          run.full (slice_get_within records end r at),
-          room_is,
-          same,
-        ) in
-        not_behind_last (size query) new.max full.groups run' r over in
+    let over : new.max < size query (push run' r) =
+    omega (
+      arith,
+      size-push query run' r,
+      run_size query records start end run.ordered,
+      next_octets records end r at,
+      run.full (slice_get_within records end r at),
+      room_is,
+      same,
+    ) in
+    not_behind_last (size query) new.max full.groups run' r over in
     record {
       groups = push full.groups run';
       holds = added full.groups full.holds;

@@ -27,7 +27,7 @@ returns-clause-permutation c =
     let same = with_items_is by_key tied (length_permutation c.as_mut_slice.result.now tied moved ∙ c.as_mut_slice.ensures.len) in
     subst (IsPermutation c.args.entries.now.items) (sym same)
     (IsPermutation-trans c.args.entries.now.items by_key.items tied c.sort_unstable_by_key.ensures.permutation
-        (subst (λ (l : List Keyed). IsPermutation l tied) c.as_mut_slice.ensures.value moved))
+    (subst (λ (l : List Keyed). IsPermutation l tied) c.as_mut_slice.ensures.value moved))
 
 pub returns-clause-sorted : goal.returns-clause-sorted
 returns-clause-sorted c =
