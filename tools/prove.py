@@ -16,7 +16,7 @@ from pathlib import Path
 from crates import processors
 
 # Measured from nothing: the processor seconds of a whole run, and the minutes that its longest chain of crates takes at the least.
-PROCESSOR_SECONDS, CHAIN = 20500, 81
+PROCESSOR_SECONDS, CHAIN = 30000, 110
 # How much longer a run takes than if no processor ever waited, at the best and on a machine with other work.
 LEAST, MOST = 1.05, 1.3
 # The memory that the largest proof takes, in bytes, and where the machine says how much is free.
